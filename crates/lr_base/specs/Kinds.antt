@@ -1,0 +1,28 @@
+-- Kinds of operations, and which pairs of updates need one order.
+use Rattle.std.specs.Prelude.{◌≡◌, Bool, true, false, ◌&&◌, ◌||◌}
+use Rattle.lr_base.specs.declared.lr_service.Kind.{Kind}
+use Rattle.lr_base.specs.declared.lr_service.Kind.TheVariants.{Query, Forced, Immediate}
+
+abbrev pub is_query : Kind → Bool
+is_query Query = true
+is_query _ = false
+
+abbrev pub is_forced : Kind → Bool
+is_forced Forced = true
+is_forced _ = false
+
+abbrev pub is_immediate : Kind → Bool
+is_immediate Immediate = true
+is_immediate _ = false
+
+-- an operation of this kind only reads
+abbrev pub IsQuery : Kind → Type 0
+IsQuery kind = is_query kind ≡ true
+
+-- an operation of this kind may change the value
+abbrev pub IsUpdate : Kind → Type 0
+IsUpdate kind = is_query kind ≡ false
+
+-- two updates of these kinds need one order everywhere: one is immediate, or both are forced
+abbrev pub are_ordered : Kind → Kind → Bool
+are_ordered a b = is_immediate a || is_immediate b || (is_forced a && is_forced b)

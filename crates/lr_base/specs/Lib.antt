@@ -1,0 +1,4 @@
+pub mod Config
+pub mod Stamps
+pub mod Kinds
+pub mod Meaning

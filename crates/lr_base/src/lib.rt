@@ -1,0 +1,15 @@
+//! What every crate speaks of: stamps, calls, messages, events, outcomes, and what a service is.
+#![tactic(auto)]
+
+mod events;
+pub mod lr_service;
+mod messages;
+mod names;
+mod rows;
+mod stamp;
+
+pub use events::{Event, Outcome, Refusal, Sent, StateLine, Step};
+pub use messages::{Call, LogAck, LogUpdate, Message};
+pub use names::{Actor, Cid, Config, Spot};
+pub use rows::{NoMemory, Rows, Text};
+pub use stamp::Stamp;

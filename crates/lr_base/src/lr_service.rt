@@ -1,0 +1,84 @@
+//! What a service is: a value, operations on it, and the law that lets replicas apply them in different orders.
+ghost use Rattle.std.specs.Prelude.{◌≡◌, ◌≢◌, ◌++◌, true, IfOk, OnOk, OnErr, IsErrOf};
+ghost use Rattle.lr_base.specs.Kinds.{IsQuery, IsUpdate};
+ghost use Rattle.lr_base.specs.Meaning.{Meaning, Lawful};
+
+use crate::rows::{NoMemory, Text};
+use std::alloc::Global;
+
+/// How an operation is ordered against the others.
+#[derive(Clone, Copy, PartialEq, Eq)]
+pub enum Kind {
+    /// It reads the value and changes nothing.
+    Query,
+    /// An update that is ordered by its label alone.
+    Causal,
+    /// An update that has one order among all forced ones.
+    Forced,
+    /// An update that has one order against all updates.
+    Immediate,
+}
+
+/// Why a text was not read as an operation.
+#[derive(Clone, Copy, Debug, PartialEq, Eq)]
+pub enum OpFault {
+    /// The text is no operation of this service.
+    NotAnOp,
+    NoMemory,
+}
+
+/// An operation of some service.
+pub trait Operation: Sized + Drop {
+    /// The kind that the service gives it.
+    ghost use Rattle.lr_base.specs.declared.lr_service.Kind.{Kind};
+
+    ghost kind_of: { Self → Kind };
+
+    /// An operation equal to this one.
+    fn copy(&self) -> Result<Self, NoMemory>
+        ensures { IfOk result (λ copied. copied ≡ self.now) };
+}
+
+/// A value with its operations. Two updates commute unless one is immediate or both are forced.
+pub trait Service: Sized + Drop {
+    type Op: Operation;
+
+    /// What the operations mean.
+    ghost meaning: { Meaning Self Self.Op };
+
+    /// The value before any update.
+    fn start(alloc: Global) -> Result<Self, NoMemory>
+        ensures { IfOk result (λ value. value ≡ meaning.start) };
+
+    /// How the operation is ordered.
+    fn kind(op: &Self::Op) -> Kind
+        ensures meaning { result ≡ meaning.kind op.now }
+        ensures same { result ≡ Self.Op.kind_of op.now };
+
+    /// Changes the value as an update says.
+    fn apply(&mut self, op: &Self::Op) -> Result<(), NoMemory>
+        requires { IsUpdate (Self.Op.kind_of op.now) }
+        ensures ok { OnOk result (self.new ≡ meaning.apply self.old op.now) }
+        ensures err { OnErr result (self.new ≡ self.old) };
+
+    /// What a query answers: printable bytes.
+    fn read(&self, op: &Self::Op) -> Result<Text, NoMemory>
+        requires { IsQuery (Self.Op.kind_of op.now) }
+        ensures { IfOk result (λ answer. answer ≡ meaning.read self.now op.now) };
+
+    /// The operation that is written so.
+    fn read_op(alloc: Global, text: &[u8]) -> Result<Self::Op, OpFault>
+        ensures written { IfOk result (λ op. meaning.text op ≡ text.now) }
+        ensures real { IfOk result (λ op. meaning.is_op op ≡ true) }
+        ensures refused { IsErrOf result OpFault.NotAnOp → (op : Self.Op) → meaning.is_op op ≡ true → meaning.text op ≢ text.now };
+
+    /// Adds the operation's one text behind `out`.
+    fn print_op(op: &Self::Op, out: &mut Text) -> Result<(), NoMemory>
+        ensures { OnOk result (out.new ≡ out.old ++ meaning.text op.now) };
+
+    /// A value equal to this one.
+    fn copy(&self) -> Result<Self, NoMemory>
+        ensures { IfOk result (λ copied. copied ≡ self.now) };
+
+    ghost lawful: { Lawful meaning Self.Op.kind_of };
+}

@@ -1,0 +1,45 @@
+//! What clients and replicas send one another.
+use crate::names::{Cid, Spot};
+use crate::rows::Text;
+use crate::stamp::Stamp;
+
+/// A call as its client made it, with the label that its front end had.
+#[derive(Drop)]
+pub struct Call<O> {
+    pub cid: Cid,
+    /// The updates that must come before it.
+    pub prev: Stamp,
+    pub op: O,
+}
+
+/// An update in a replica's log.
+#[derive(Drop)]
+pub struct LogUpdate<O> {
+    pub spot: Spot,
+    pub cid: Cid,
+    /// The updates that must be applied before it.
+    pub prev: Stamp,
+    pub op: O,
+}
+
+/// A client's word that it has the reply to a call, in a replica's log.
+#[derive(Clone, Copy, PartialEq, Eq)]
+pub struct LogAck {
+    pub spot: Spot,
+    pub cid: Cid,
+    /// The front end's clock when it was sent.
+    pub time: u64,
+}
+
+/// A message, with all that it carries.
+#[derive(Drop)]
+pub enum Message<O> {
+    /// A client's update; `time` is the front end's clock.
+    Update { call: Call<O>, time: u64 },
+    /// A client's query.
+    Query { call: Call<O> },
+    /// The reply to an update: where it was accepted, and what to see to see it.
+    Done { cid: Cid, spot: Spot, stamp: Stamp },
+    /// The reply to a query: the service's answer, and what it was read after.
+    Answer { cid: Cid, text: Text, stamp: Stamp },
+}

@@ -1,0 +1,49 @@
+//! The names of clients, replicas, calls and places, and the numbers that a run is set up with.
+ghost use Rattle.std.specs.Prelude.{◌↔◌, IsTrue};
+ghost use Rattle.lr_base.specs.Config.{IsValid};
+
+/// How many replicas and clients there are, and how long a message may be under way.
+#[derive(Clone, Copy, PartialEq, Eq)]
+pub struct Config {
+    /// From 1 to 9.
+    pub replicas: u8,
+    /// From 1 to 64.
+    pub clients: u32,
+    /// In the unit of the clocks' readings.
+    pub delta: u64,
+}
+
+impl Config {
+    /// Whether the counts are in their ranges.
+    pub fn is_valid(&self) -> bool
+        ensures { IsTrue result ↔ IsValid self.now }
+    {
+        let Config {
+            replicas,
+            clients,
+            delta: _delta,
+        } = *self;
+        1 <= replicas && replicas <= 9 && 1 <= clients && clients <= 64
+    }
+}
+
+/// A call, by its client and that client's count of calls, from 1.
+#[derive(Clone, Copy, PartialEq, Eq, Hash)]
+pub struct Cid {
+    pub client: u32,
+    pub seq: u64,
+}
+
+/// Where an update was accepted: a replica's place, and that place's count, from 1.
+#[derive(Clone, Copy, PartialEq, Eq)]
+pub struct Spot {
+    pub place: u8,
+    pub number: u64,
+}
+
+/// Who sends or receives a message.
+#[derive(Clone, Copy, PartialEq, Eq)]
+pub enum Actor {
+    Client(u32),
+    Replica(u8),
+}

@@ -1,0 +1,115 @@
+//! Multipart timestamps.
+ghost use Rattle.std.specs.Prelude.{◌≡◌, ◌<◌, ◌≤◌, length, replicate};
+ghost use Rattle.lr_base.specs.Stamps.{part, join, stamp_le, set_part};
+
+use arrayvec::ArrayVec;
+use std::marker::Model;
+
+// The most parts that a stamp has: one for each replica, and one for the order.
+const MOST_PARTS: usize = 10;
+
+/// A multipart timestamp: one part for each replica, and a last one for the order. No call takes memory.
+#[derive(Drop)]
+pub struct Stamp {
+    parts: ArrayVec<u64, MOST_PARTS>,
+}
+
+impl Model for Stamp {
+    ghost use Rattle.std.specs.Prelude.{List, ℕ, ◌≤◌, length};
+
+    ghost Value = { List ℕ };
+
+    ghost view = { λ it. it.parts.items };
+
+    ghost invariant = { λ it. length it.parts.items ≤ 10 };
+}
+
+impl Stamp {
+    /// A stamp of this many parts, all of them 0.
+    pub fn zero(parts: u8) -> Stamp
+        requires some { 2 ≤ parts }
+        requires most { parts ≤ 10 }
+        ensures { result ≡ replicate parts 0 }
+    {
+        let mut zeros = ArrayVec::new();
+        for _ in 0..parts {
+            zeros.push(0);
+        }
+        Stamp { parts: zeros }
+    }
+
+    /// How many parts it has.
+    pub fn parts(&self) -> u8
+        ensures { result ≡ length self.now }
+    {
+        self.parts.len() as u8
+    }
+
+    /// A stamp equal to this one.
+    pub fn copy(&self) -> Stamp
+        ensures { result ≡ self.now }
+    {
+        let mut parts = ArrayVec::new();
+        for part in self.parts.as_slice() {
+            parts.push(*part);
+        }
+        Stamp { parts }
+    }
+
+    /// The part at a place.
+    pub fn part(&self, place: u8) -> u64
+        requires { place < length self.now }
+        ensures { result ≡ part self.now place }
+    {
+        self.parts[place as usize]
+    }
+
+    /// Writes the part at a place.
+    pub fn set_part(&mut self, place: u8, number: u64)
+        requires { place < length self.old }
+        ensures set { self.new ≡ set_part self.old place number }
+        ensures parts { length self.new ≡ length self.old }
+    {
+        self.parts[place as usize] = number;
+    }
+
+    /// Takes the greater of each pair of parts.
+    pub fn join(&mut self, other: &Stamp)
+        requires { length self.old ≡ length other.now }
+        ensures joined { self.new ≡ join self.old other.now }
+        ensures parts { length self.new ≡ length self.old }
+    {
+        raise(self.parts.as_mut_slice(), other.parts.as_slice());
+    }
+
+    /// Whether each part is at most its counterpart.
+    pub fn le(&self, other: &Stamp) -> bool
+        requires { length self.now ≡ length other.now }
+        ensures { result ≡ stamp_le self.now other.now }
+    {
+        is_at_most(self.parts.as_slice(), other.parts.as_slice())
+    }
+}
+
+fn raise(own: &mut [u64], other: &[u64])
+    requires { length own.old ≡ length other.now }
+    ensures { own.new ≡ join own.old other.now }
+{
+    for i in 0..own.len() {
+        if own[i] < other[i] {
+            own[i] = other[i];
+        }
+    }
+}
+
+fn is_at_most(own: &[u64], other: &[u64]) -> bool
+    requires { length own.now ≡ length other.now }
+    ensures { result ≡ stamp_le own.now other.now }
+{
+    for i in 0..own.len() {
+        if other[i] < own[i] {
+            return false;
+        }
+    }
+    true
+}
