@@ -2,3 +2,4 @@ pub mod Config
 pub mod Stamps
 pub mod Kinds
 pub mod Meaning
+pub mod Rules

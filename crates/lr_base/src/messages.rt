@@ -1,7 +1,10 @@
 //! What clients and replicas send one another.
+ghost use Rattle.std.specs.Prelude.{⊤, ◌≡◌};
+
 use crate::names::{Cid, Spot};
 use crate::rows::Text;
 use crate::stamp::Stamp;
+use std::alloc::AllocError;
 
 /// A call as its client made it, with the label that its front end had.
 #[derive(Drop)]
@@ -29,6 +32,26 @@ pub struct LogAck {
     pub cid: Cid,
     /// The front end's clock when it was sent.
     pub time: u64,
+}
+
+/// What is known of an executed call: where it was accepted, and its stamp.
+#[derive(Drop)]
+pub struct Known {
+    pub spot: Spot,
+    pub stamp: Stamp,
+}
+
+impl Clone for Known {
+    ghost is_clone = { λ known cloned. cloned ≡ known };
+
+    ghost is_infallible = { λ _. ⊤ };
+
+    fn clone(&self) -> Result<Self, AllocError> {
+        Ok(Known {
+            spot: self.spot,
+            stamp: self.stamp.copy(),
+        })
+    }
 }
 
 /// A message, with all that it carries.

@@ -1,8 +1,9 @@
 //! Multipart timestamps.
-ghost use Rattle.std.specs.Prelude.{◌≡◌, ◌<◌, ◌≤◌, length, replicate};
+ghost use Rattle.std.specs.Prelude.{⊤, ◌≡◌, ◌<◌, ◌≤◌, length, replicate};
 ghost use Rattle.lr_base.specs.Stamps.{part, join, stamp_le, set_part};
 
 use arrayvec::ArrayVec;
+use std::alloc::AllocError;
 use std::marker::Model;
 
 // The most parts that a stamp has: one for each replica, and one for the order.
@@ -88,6 +89,16 @@ impl Stamp {
         ensures { result ≡ stamp_le self.now other.now }
     {
         is_at_most(self.parts.as_slice(), other.parts.as_slice())
+    }
+}
+
+impl Clone for Stamp {
+    ghost is_clone = { λ stamp cloned. cloned ≡ stamp };
+
+    ghost is_infallible = { λ _. ⊤ };
+
+    fn clone(&self) -> Result<Self, AllocError> {
+        Ok(self.copy())
     }
 }
 

@@ -1,0 +1,86 @@
+-- The causal rules of a replica, as functions of its state.
+use Rattle.std.specs.Prelude.{ℕ, ◌+◌, Bool, ◌&&◌, ◌||◌, ◌==◌, nat_lt, if◌then◌else◌, List, [], ◌∷◌, ◌++◌, Option, Some, None, is_some}
+use Rattle.lr_base.specs.declared.names.Cid.{Cid}
+use Rattle.lr_base.specs.declared.names.Spot.{Spot}
+use Rattle.lr_base.specs.declared.messages.Call.{Call}
+use Rattle.lr_base.specs.declared.messages.Known.{Known}
+use Rattle.lr_base.specs.declared.messages.LogAck.{LogAck}
+use Rattle.lr_base.specs.declared.messages.LogUpdate.{LogUpdate}
+use Rattle.lr_base.specs.Meaning.{Meaning}
+use Rattle.lr_base.specs.Stamps.{part, join, stamp_le, set_part}
+
+-- whether two names are those of one call
+abbrev pub same_cid : Cid → Cid → Bool
+same_cid a b = (a.client == b.client) && (a.seq == b.seq)
+
+-- whether the first spot comes before the second in the order of places and then numbers
+abbrev pub is_before : Spot → Spot → Bool
+is_before a b = nat_lt a.place b.place || ((a.place == b.place) && nat_lt a.number b.number)
+
+-- what is known of a call in a table of executed calls
+abbrev pub known_of : List (Cid × Known) → Cid → Option Known
+known_of [] cid = None
+known_of (e ∷ table) cid = if same_cid cid e.0 then Some e.1 else known_of table cid
+
+-- what a replica keeps of causal operations
+pub record CausalState (Value Op : Type 0) : Type 0 where
+  pub clock : ℕ
+  pub rep_ts : List ℕ
+  pub val_ts : List ℕ
+  pub value : Value
+  pub updates : List (LogUpdate Op)
+  pub acks : List LogAck
+  pub calls : List (Cid × Known)
+  pub order_ts : List ℕ
+  pub imm_ts : List ℕ
+  pub top : ℕ
+
+-- the stamp of a logged update: its causes, and its own number at its place
+abbrev pub stamp_of : {Op : Type 0} → LogUpdate Op → List ℕ
+stamp_of u = set_part u.prev u.spot.place u.spot.number
+
+-- the list with one more update, in the order of spots
+abbrev pub put_update : {Op : Type 0} → LogUpdate Op → List (LogUpdate Op) → List (LogUpdate Op)
+put_update u [] = u ∷ []
+put_update u (x ∷ updates) = if is_before u.spot x.spot then u ∷ x ∷ updates else x ∷ put_update u updates
+
+-- the update that a replica at this place makes of a call: it takes the next number, and comes after the last immediate update
+abbrev pub update_of_call : {Value Op : Type 0} → ℕ → CausalState Value Op → Call Op → LogUpdate Op
+update_of_call me state call = record {
+  spot = record { place = me; number = part state.rep_ts me + 1 };
+  cid = call.cid;
+  prev = join call.prev state.imm_ts;
+  op = call.op;
+}
+
+-- accepting a call: its update is logged, and its number is the last one taken here
+abbrev pub accepted : {Value Op : Type 0} → ℕ → CausalState Value Op → Call Op → CausalState Value Op
+accepted me state call =
+    let u = update_of_call me state call in
+    record state {
+      rep_ts = set_part state.rep_ts me u.spot.number;
+      updates = put_update u state.updates;
+      top = u.spot.number;
+    }
+
+-- how far applying has come: the value, the stamp of what was applied, the executed calls
+pub record Progress (Value : Type 0) : Type 0 where
+  pub value : Value
+  pub val_ts : List ℕ
+  pub calls : List (Cid × Known)
+
+-- applying an update: its call is executed unless it was before, and its stamp is covered either way
+abbrev pub apply_one : {Value Op : Type 0} → Meaning Value Op → Progress Value → LogUpdate Op → Progress Value
+apply_one m p u =
+    let covered = join p.val_ts (stamp_of u) in
+    if is_some (known_of p.calls u.cid)
+    then record p { val_ts = covered }
+    else record {
+      value = m.apply p.value u.op;
+      val_ts = covered;
+      calls = p.calls ++ (u.cid, record { spot = u.spot; stamp = stamp_of u }) ∷ [];
+    }
+
+-- what a query with this label is answered: nothing while something of its label isn't applied
+abbrev pub answer_of : {Value Op : Type 0} → Meaning Value Op → Value → List ℕ → List ℕ → Op → Option (List ℕ)
+answer_of m value val_ts label op = if stamp_le label val_ts then Some (m.read value op) else None

@@ -1,0 +1,75 @@
+//! Which calls were executed, and where.
+ghost use Rattle.std.specs.Prelude.{◌≡◌, ◌-◌, [], ◌∷◌, ◌++◌, length, take, None, is_some, IfOk, OnOk, OnErr};
+ghost use Rattle.std.specs.Option.{option_copied};
+ghost use Rattle.lr_base.specs.Rules.{known_of};
+
+use indexmap::IndexMap;
+use lr_base::{Cid, Known, NoMemory};
+use std::alloc::Global;
+use std::marker::Model;
+
+/// The executed calls, each with one spot and its stamp, in the order in which they were executed.
+#[derive(Drop)]
+pub struct CallTable {
+    known: IndexMap<Cid, Known>,
+}
+
+impl Model for CallTable {
+    ghost use Rattle.std.specs.Prelude.{List};
+    ghost use Rattle.lr_base.specs.declared.names.Cid.{Cid};
+    ghost use Rattle.lr_base.specs.declared.messages.Known.{Known};
+
+    ghost Value = { List (Cid × Known) };
+
+    ghost view = { λ table. table.known.entries };
+}
+
+impl CallTable {
+    /// No call.
+    pub fn new(alloc: Global) -> Self
+        ensures { result ≡ [] }
+    {
+        CallTable {
+            known: IndexMap::new(alloc),
+        }
+    }
+
+    /// Where the call was executed, if it was.
+    pub fn find(&self, cid: Cid) -> Option<&Known>
+        ensures { option_copied result ≡ known_of self.now cid }
+    {
+        self.known.get(&cid)
+    }
+
+    /// Whether the call was executed.
+    pub fn has(&self, cid: Cid) -> bool
+        ensures { result ≡ is_some (known_of self.now cid) }
+    {
+        self.known.contains_key(&cid)
+    }
+
+    /// Enters a call that isn't there.
+    pub fn enter(&mut self, cid: Cid, known: Known) -> Result<(), NoMemory>
+        requires { known_of self.old cid ≡ None }
+        ensures ok { OnOk result (self.new ≡ self.old ++ (cid, known) ∷ []) }
+        ensures err { OnErr result (self.new ≡ self.old) }
+    {
+        self.known.insert(cid, known)?;
+        Ok(())
+    }
+
+    /// Takes out the call that was entered last.
+    pub fn leave(&mut self)
+        ensures { self.new ≡ take (length self.old - 1) self.old }
+    {
+        let _last = self.known.pop();
+    }
+
+    /// A table equal to this one.
+    pub fn copy(&self) -> Result<Self, NoMemory>
+        ensures { IfOk result (λ copied. copied ≡ self.now) }
+    {
+        let known = self.known.clone()?;
+        Ok(CallTable { known })
+    }
+}

@@ -1,0 +1,10 @@
+//! The causal part of a replica: what it accepted, what it applied, and what it answers.
+#![tactic(auto)]
+
+mod calls;
+mod log;
+mod value;
+
+pub use calls::CallTable;
+pub use log::{LOG_ROOM, Log};
+pub use value::Value;

@@ -1,0 +1,124 @@
+//! What a replica received and keeps: updates and acknowledgements.
+ghost use Rattle.std.specs.Prelude.{◌≡◌, ◌↔◌, ◌<◌, ◌≤◌, ◌+◌, [], length, find, position, IsTrue, OnOk, OnErr};
+ghost use Rattle.std.specs.Option.{option_map, option_copied};
+ghost use Rattle.std.specs.List.{position_or_len};
+ghost use Rattle.lr_base.specs.Rules.{put_update, same_cid, is_before as spot_is_before};
+ghost use Rattle.lr_causal.specs.Items.{Items, item_count};
+
+use lr_base::{Cid, LogAck, LogUpdate, NoMemory, Spot};
+use std::alloc::Global;
+use std::marker::Model;
+
+/// How many items a log may hold before a new one is refused.
+pub const LOG_ROOM: usize = 512;
+
+/// The logged updates and acknowledgements, each list in order of place and then number.
+#[derive(Drop)]
+pub struct Log<O: Drop> {
+    updates: Vec<LogUpdate<O>>,
+    acks: Vec<LogAck>,
+}
+
+impl<O: Drop> Model for Log<O> {
+    ghost use Rattle.lr_causal.specs.Items.{Items};
+
+    ghost Value = { Items O };
+
+    ghost view = { λ log. record { updates = log.updates.items; acks = log.acks.items } };
+}
+
+impl<O: Drop> Log<O> {
+    /// Nothing logged.
+    pub fn new(alloc: Global) -> Self
+        ensures updates { result.updates ≡ [] }
+        ensures acks { result.acks ≡ [] }
+    {
+        Log {
+            updates: Vec::new(alloc),
+            acks: Vec::new(alloc),
+        }
+    }
+
+    /// The logged updates, in the order of their spots.
+    pub fn updates(&self) -> &[LogUpdate<O>]
+        ensures { result.now ≡ self.now.updates }
+    {
+        self.updates.as_slice()
+    }
+
+    /// The logged acknowledgements, in the order of their spots.
+    pub fn acks(&self) -> &[LogAck]
+        ensures { result.now ≡ self.now.acks }
+    {
+        self.acks.as_slice()
+    }
+
+    /// Whether one more item may be logged.
+    pub fn has_room(&self) -> bool
+        ensures { IsTrue result ↔ (item_count self.now < LOG_ROOM) }
+    {
+        let updates = self.updates.len();
+        updates < LOG_ROOM && self.acks.len() < LOG_ROOM - updates
+    }
+
+    /// The least spot of a logged update of this call.
+    pub fn update_of(&self, cid: Cid) -> Option<&LogUpdate<O>>
+        ensures { option_copied result ≡ find (λ u. same_cid u.cid cid) self.now.updates }
+    {
+        self.updates
+            .as_slice()
+            .iter()
+            .find(|update| update.cid == cid)
+    }
+
+    /// The least spot of a logged acknowledgement of this call.
+    pub fn ack_of(&self, cid: Cid) -> Option<Spot>
+        ensures { result ≡ option_map (λ a. a.spot) (find (λ a. same_cid a.cid cid) self.now.acks) }
+    {
+        let ack = self.acks.as_slice().iter().find(|ack| ack.cid == cid)?;
+        Some(ack.spot)
+    }
+
+    /// Logs an update whose spot isn't there.
+    pub fn add_update(&mut self, update: LogUpdate<O>) -> Result<(), NoMemory>
+        ensures ok { OnOk result (self.new ≡ record self.old { updates = put_update update self.old.updates }) }
+        ensures err { OnErr result (self.new ≡ self.old) }
+    {
+        let at = place_of(self.updates.as_slice(), update.spot);
+        self.updates.insert(at, update)?;
+        Ok(())
+    }
+
+    /// Drops every update.
+    pub fn clear_updates(&mut self)
+        ensures { self.new ≡ record self.old { updates = [] } }
+    {
+        self.updates.clear();
+    }
+}
+
+fn is_before(first: Spot, second: Spot) -> bool
+    ensures { result ≡ spot_is_before first second }
+{
+    first.place < second.place || first.place == second.place && first.number < second.number
+}
+
+// The first logged update behind this spot.
+fn first_behind<O>(updates: &[LogUpdate<O>], spot: Spot) -> Option<usize>
+    ensures { result ≡ position (λ u. spot_is_before spot u.spot) updates.now }
+{
+    updates
+        .iter()
+        .position(|update| is_before(spot, update.spot))
+}
+
+// Where an update of this spot belongs among the others.
+fn place_of<O>(updates: &[LogUpdate<O>], spot: Spot) -> usize
+    ensures place { result ≡ position_or_len (λ u. spot_is_before spot u.spot) updates.now }
+    ensures most { result ≤ length updates.now }
+{
+    match first_behind(updates, spot) {
+        Some(at) => at,
+        None => updates.len(),
+    }
+}
