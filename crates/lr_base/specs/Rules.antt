@@ -1,8 +1,10 @@
 -- The causal rules of a replica, as functions of its state.
-use Rattle.std.specs.Prelude.{ℕ, ◌+◌, Bool, ◌&&◌, ◌||◌, ◌==◌, nat_lt, if◌then◌else◌, List, [], ◌∷◌, ◌++◌, Option, Some, None, is_some}
+use Rattle.std.specs.Prelude.{ℕ, ◌+◌, find, Bool, ◌&&◌, ◌||◌, ◌==◌, nat_lt, if◌then◌else◌, List, [], ◌∷◌, ◌++◌, Option, Some, None, is_some}
 use Rattle.lr_base.specs.declared.names.Cid.{Cid}
 use Rattle.lr_base.specs.declared.names.Spot.{Spot}
 use Rattle.lr_base.specs.declared.messages.Call.{Call}
+use Rattle.lr_base.specs.declared.messages.Fresh.{Fresh}
+use Rattle.lr_base.specs.declared.messages.Fresh.TheVariants.{New, Late, Again, Settled}
 use Rattle.lr_base.specs.declared.messages.Known.{Known}
 use Rattle.lr_base.specs.declared.messages.LogAck.{LogAck}
 use Rattle.lr_base.specs.declared.messages.LogUpdate.{LogUpdate}
@@ -38,6 +40,31 @@ pub record CausalState (Value Op : Type 0) : Type 0 where
 -- the stamp of a logged update: its causes, and its own number at its place
 abbrev pub stamp_of : {Op : Type 0} → LogUpdate Op → List ℕ
 stamp_of u = set_part u.prev u.spot.place u.spot.number
+
+-- whether a time lies further back than the clock allows
+abbrev pub is_late : ℕ → ℕ → ℕ → Bool
+is_late time delta clock = nat_lt (time + delta) clock
+
+-- a call was taken before where the table has it, and else where an update of it is logged
+abbrev pub taken_before : {Op : Type 0} → Option Known → Option (LogUpdate Op) → Option Known
+taken_before (Some known) logged = Some known
+taken_before None (Some u) = Some (record { spot = u.spot; stamp = stamp_of u })
+taken_before None None = None
+
+-- what a replica says of an update's call that isn't late
+abbrev pub fresh_when : Option Known → Option LogAck → Fresh
+fresh_when (Some known) ack = Again known.spot known.stamp
+fresh_when None (Some ack) = Settled
+fresh_when None None = New
+
+-- the first checks of an update: late, taken before, or acknowledged
+abbrev pub fresh_of : {Value Op : Type 0} → ℕ → CausalState Value Op → Cid → ℕ → Fresh
+fresh_of delta state cid time =
+    if is_late time delta state.clock
+      then Late time state.clock
+      else fresh_when
+        (taken_before (known_of state.calls cid) (find (λ u. same_cid u.cid cid) state.updates))
+        (find (λ ack. same_cid ack.cid cid) state.acks)
 
 -- the list with one more update, in the order of spots
 abbrev pub put_update : {Op : Type 0} → LogUpdate Op → List (LogUpdate Op) → List (LogUpdate Op)

@@ -9,7 +9,7 @@ mod rows;
 mod stamp;
 
 pub use events::{Event, Outcome, Refusal, Sent, StateLine, Step};
-pub use messages::{Call, Known, LogAck, LogUpdate, Message};
+pub use messages::{Call, Fresh, Known, LogAck, LogUpdate, Message};
 pub use names::{Actor, Cid, Config, Spot};
 pub use rows::{NoMemory, Rows, Text};
 pub use stamp::Stamp;

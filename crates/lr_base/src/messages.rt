@@ -41,6 +41,18 @@ pub struct Known {
     pub stamp: Stamp,
 }
 
+/// Whether a replica has met a call before.
+#[derive(Drop)]
+pub enum Fresh {
+    New,
+    /// The message's time lies further back than the clock allows.
+    Late { time: u64, clock: u64 },
+    /// The call was taken before: where, and with which stamp.
+    Again { spot: Spot, stamp: Stamp },
+    /// The client has said that it has the reply.
+    Settled,
+}
+
 impl Clone for Known {
     ghost is_clone = { λ known cloned. cloned ≡ known };
 

@@ -1,2 +1,3 @@
-pub mod Items
 pub mod Applied
+pub mod Causal
+pub mod Items

@@ -2,9 +2,11 @@
 #![tactic(auto)]
 
 mod calls;
+mod causal;
 mod log;
 mod value;
 
 pub use calls::CallTable;
+pub use causal::Causal;
 pub use log::{LOG_ROOM, Log};
 pub use value::Value;
