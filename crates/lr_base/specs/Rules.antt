@@ -1,5 +1,6 @@
 -- The causal rules of a replica, as functions of its state.
-use Rattle.std.specs.Prelude.{ℕ, ◌+◌, find, Bool, ◌&&◌, ◌||◌, ◌==◌, nat_lt, if◌then◌else◌, List, [], ◌∷◌, ◌++◌, Option, Some, None, is_some}
+use Rattle.std.specs.Prelude.{ℕ, ◌+◌, find, filter, length, not, zero, suc, replicate, Bool, ◌&&◌, ◌||◌, ◌==◌, nat_lt, if◌then◌else◌, List, [], ◌∷◌, ◌++◌, Option, Some, None, is_some}
+use Rattle.std.specs.Option.{option_map, option_map_or}
 use Rattle.lr_base.specs.declared.names.Cid.{Cid}
 use Rattle.lr_base.specs.declared.names.Spot.{Spot}
 use Rattle.lr_base.specs.declared.messages.Call.{Call}
@@ -36,6 +37,21 @@ pub record CausalState (Value Op : Type 0) : Type 0 where
   pub order_ts : List ℕ
   pub imm_ts : List ℕ
   pub top : ℕ
+
+-- the state of a replica at which nothing has happened
+abbrev pub first_state : {Value Op : Type 0} → Meaning Value Op → ℕ → CausalState Value Op
+first_state m parts = record {
+  clock = 0;
+  rep_ts = replicate parts 0;
+  val_ts = replicate parts 0;
+  value = m.start;
+  updates = [];
+  acks = [];
+  calls = [];
+  order_ts = replicate parts 0;
+  imm_ts = replicate parts 0;
+  top = 0;
+}
 
 -- the stamp of a logged update: its causes, and its own number at its place
 abbrev pub stamp_of : {Op : Type 0} → LogUpdate Op → List ℕ
@@ -107,6 +123,43 @@ apply_one m p u =
       val_ts = covered;
       calls = p.calls ++ (u.cid, record { spot = u.spot; stamp = stamp_of u }) ∷ [];
     }
+
+-- whether an update counts as applied to a value with this stamp
+abbrev pub is_covered : {Op : Type 0} → List ℕ → LogUpdate Op → Bool
+is_covered val_ts u = stamp_le (stamp_of u) val_ts
+
+-- the first update whose causes are applied, and the others
+abbrev pub take_ready : {Op : Type 0} → List ℕ → List (LogUpdate Op) → Option (LogUpdate Op × List (LogUpdate Op))
+take_ready val_ts [] = None
+take_ready val_ts (u ∷ todo) =
+    if stamp_le u.prev val_ts
+      then Some (u, todo)
+      else option_map (λ taken. (taken.0, u ∷ taken.1)) (take_ready val_ts todo)
+
+-- applying the first update whose causes are applied, again and again, so many times at the most
+abbrev pub apply_ready : {Value Op : Type 0} → Meaning Value Op → ℕ → List (LogUpdate Op) → Progress Value → Progress Value
+apply_ready m zero todo p = p
+apply_ready m (suc turns) todo p =
+    option_map_or (λ taken. apply_ready m turns taken.1 (apply_one m p taken.0)) (take_ready p.val_ts todo) p
+
+-- the logged updates that don't count as applied as the part begins
+abbrev pub waiting : {Op : Type 0} → List ℕ → List (LogUpdate Op) → List (LogUpdate Op)
+waiting val_ts updates = filter (λ u. not (is_covered val_ts u)) updates
+
+-- how far applying had come in a state
+abbrev pub progress_of : {Value Op : Type 0} → CausalState Value Op → Progress Value
+progress_of state = record { value = state.value; val_ts = state.val_ts; calls = state.calls }
+
+-- applying all that is ready: of those that wait, the least place and number whose causes are applied comes first
+abbrev pub applied : {Value Op : Type 0} → Meaning Value Op → CausalState Value Op → CausalState Value Op
+applied m state =
+    let todo = waiting state.val_ts state.updates in
+    let p = apply_ready m (length todo) todo (progress_of state) in
+    record state { value = p.value; val_ts = p.val_ts; calls = p.calls }
+
+-- pruning: a lone replica keeps no update, since all know it; with several nothing leaves
+abbrev pub pruned : {Value Op : Type 0} → ℕ → CausalState Value Op → CausalState Value Op
+pruned replicas state = if replicas == 1 then record state { updates = [] } else state
 
 -- what a query with this label is answered: nothing while something of its label isn't applied
 abbrev pub answer_of : {Value Op : Type 0} → Meaning Value Op → Value → List ℕ → List ℕ → Op → Option (List ℕ)

@@ -1,5 +1,6 @@
 //! What clients and replicas send one another.
-ghost use Rattle.std.specs.Prelude.{⊤, ◌≡◌};
+ghost use Rattle.std.specs.Prelude.{⊤, ◌≡◌, ◌<◌, length};
+ghost use Rattle.lr_base.specs.Rules.{stamp_of};
 
 use crate::names::{Cid, Spot};
 use crate::rows::Text;
@@ -23,6 +24,19 @@ pub struct LogUpdate<O> {
     /// The updates that must be applied before it.
     pub prev: Stamp,
     pub op: O,
+}
+
+impl<O> LogUpdate<O> {
+    /// Its causes, and its own number at its place.
+    pub fn stamp(&self) -> Stamp
+        requires { self.now.spot.place < length self.now.prev }
+        ensures stamp { result ≡ stamp_of self.now }
+        ensures parts { length result ≡ length self.now.prev }
+    {
+        let mut stamp = self.prev.copy();
+        stamp.set_part(self.spot.place, self.spot.number);
+        stamp
+    }
 }
 
 /// A client's word that it has the reply to a call, in a replica's log.
@@ -53,16 +67,25 @@ pub enum Fresh {
     Settled,
 }
 
+impl Known {
+    /// The same of the same call. It takes no memory.
+    pub fn copy(&self) -> Known
+        ensures { result ≡ self.now }
+    {
+        Known {
+            spot: self.spot,
+            stamp: self.stamp.copy(),
+        }
+    }
+}
+
 impl Clone for Known {
     ghost is_clone = { λ known cloned. cloned ≡ known };
 
     ghost is_infallible = { λ _. ⊤ };
 
     fn clone(&self) -> Result<Self, AllocError> {
-        Ok(Known {
-            spot: self.spot,
-            stamp: self.stamp.copy(),
-        })
+        Ok(self.copy())
     }
 }
 

@@ -1,2 +1,3 @@
+mod Facts
 mod Logs
 mod Tables

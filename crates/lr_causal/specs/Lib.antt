@@ -1,3 +1,4 @@
 pub mod Applied
 pub mod Causal
 pub mod Items
+pub mod State

@@ -6,8 +6,9 @@ ghost use Rattle.lr_causal.specs.Causal.{AllLogged, AllKnown};
 use crate::calls::CallTable;
 use crate::log::Log;
 use crate::value::Value;
-use lr_base::lr_service::Service;
-use lr_base::{Config, NoMemory, Stamp};
+use lr_base::lr_service::{Operation, Service};
+use crate::lateness::late;
+use lr_base::{Call, Cid, Config, Fresh, Known, LogUpdate, NoMemory, Spot, Stamp};
 use std::alloc::Global;
 
 /// The state of a replica that causal operations use.
@@ -34,10 +35,20 @@ pub struct Causal<S: Service> {
 }
 
 impl<S: Service> Causal<S> {
+    ghost use Rattle.std.specs.Prelude.{◌≡◌, ◌+◌, ◌<◌, ◌^◌, find, length, IfOk, OnOk, OnErr};
+    ghost use Rattle.lr_base.specs.Config.{IsValid};
+    ghost use Rattle.lr_base.specs.Kinds.{IsQuery, IsUpdate};
+    ghost use Rattle.lr_base.specs.Rules.{accepted, answer_of, first_state, fresh_of, known_of, same_cid, stamp_of, taken_before, update_of_call};
+    ghost use Rattle.lr_base.specs.Stamps.{part};
+    ghost use Rattle.lr_causal.specs.State.{config_of, me_of, state_of};
+
     /// A replica at which nothing has happened.
     pub fn new(alloc: Global, config: Config, me: u8) -> Result<Self, NoMemory>
         requires valid { IsValid config }
         requires own_place { me < config.replicas }
+        ensures state { IfOk result (λ made. state_of made ≡ first_state S.meaning (config.replicas + 1)) }
+        ensures config { IfOk result (λ made. config_of made ≡ config) }
+        ensures me { IfOk result (λ made. me_of made ≡ me) }
     {
         let parts = config.replicas + 1;
         let value = Value::new(alloc, parts)?;
@@ -55,8 +66,73 @@ impl<S: Service> Causal<S> {
         })
     }
 
-    /// The greatest reading of its clock.
-    pub fn clock(&self) -> u64 {
-        self.clock
+    /// Whether an update with this call and time is new here, and if not, why.
+    pub fn fresh(&self, cid: Cid, time: u64) -> Fresh
+        ensures { result ≡ fresh_of (config_of self.now).delta (state_of self.now) cid time }
+    {
+        if late(time, self.config.delta, self.clock) {
+            return Fresh::Late {
+                time,
+                clock: self.clock,
+            };
+        }
+        if let Some(known) = self.taken_before(cid) {
+            return Fresh::Again {
+                spot: known.spot,
+                stamp: known.stamp,
+            };
+        }
+        match self.log.ack_of(cid) {
+            Some(_) => Fresh::Settled,
+            None => Fresh::New,
+        }
+    }
+
+    // Where the call was executed, or else the least spot at which it is logged.
+    fn taken_before(&self, cid: Cid) -> Option<Known>
+        ensures { result ≡ taken_before (known_of (state_of self.now).calls cid) (find (λ u. same_cid u.cid cid) (state_of self.now).updates) }
+    {
+        if let Some(known) = self.calls.find(cid) {
+            return Some(known.copy());
+        }
+        let update = self.log.update_of(cid)?;
+        Some(Known {
+            spot: update.spot,
+            stamp: update.stamp(),
+        })
+    }
+
+    /// Takes a call as this replica's next update.
+    pub fn accept(&mut self, call: &Call<S::Op>) -> Result<(Spot, Stamp), NoMemory>
+        requires parts { length call.now.prev ≡ (config_of self.old).replicas + 1 }
+        requires update { IsUpdate (S.Op.kind_of call.now.op) }
+        requires not_worn { part (state_of self.old).rep_ts (me_of self.old) < 2 ^ 62 }
+        ensures ok { OnOk result (state_of self.new ≡ accepted (me_of self.old) (state_of self.old) call.now) }
+        ensures spot { IfOk result (λ taken. taken.0 ≡ (update_of_call (me_of self.old) (state_of self.old) call.now).spot) }
+        ensures stamp { IfOk result (λ taken. taken.1 ≡ stamp_of (update_of_call (me_of self.old) (state_of self.old) call.now)) }
+        ensures err { OnErr result (state_of self.new ≡ state_of self.old) }
+        ensures config { config_of self.new ≡ config_of self.old }
+        ensures me { me_of self.new ≡ me_of self.old }
+    {
+        let number = self.rep_ts.part(self.me) + 1;
+        let mut prev = call.prev.copy();
+        prev.join(&self.imm_ts);
+        let update = LogUpdate {
+            spot: Spot {
+                place: self.me,
+                number,
+            },
+            cid: call.cid,
+            prev,
+            op: call.op.copy()?,
+        };
+        let stamp = update.stamp();
+        let spot = update.spot;
+        let Ok(()) = self.log.add_update(update) else {
+            return Err(NoMemory);
+        };
+        self.rep_ts.set_part(self.me, number);
+        self.top = number;
+        Ok((spot, stamp))
     }
 }

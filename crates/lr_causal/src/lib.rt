@@ -1,12 +1,15 @@
 //! The causal part of a replica: what it accepted, what it applied, and what it answers.
 #![tactic(auto)]
 
+mod applying;
 mod calls;
 mod causal;
+mod lateness;
 mod log;
 mod value;
 
 pub use calls::CallTable;
 pub use causal::Causal;
+pub use lateness::late;
 pub use log::{LOG_ROOM, Log};
 pub use value::Value;

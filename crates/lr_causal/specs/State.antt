@@ -1,0 +1,28 @@
+-- What contracts see of a causal replica.
+use Rattle.std.specs.Prelude.{ℕ}
+use Rattle.lr_base.specs.declared.names.Config.{Config}
+use Rattle.lr_base.specs.Rules.{CausalState}
+use Rattle.lr_causal.specs.declared.causal.Causal.{Causal}
+
+-- the replica's state, as the rules see it
+abbrev pub state_of : {S Op : Type 0} {g : _} {h : _} → Causal S Op g h → CausalState S Op
+state_of c = record {
+  clock = c.clock;
+  rep_ts = c.rep_ts;
+  val_ts = c.value.val_ts;
+  value = c.value.value;
+  updates = c.log.updates;
+  acks = c.log.acks;
+  calls = c.calls;
+  order_ts = c.order_ts;
+  imm_ts = c.imm_ts;
+  top = c.top;
+}
+
+-- what the run is set up with
+abbrev pub config_of : {S Op : Type 0} {g : _} {h : _} → Causal S Op g h → Config
+config_of c = c.config
+
+-- which replica it is
+abbrev pub me_of : {S Op : Type 0} {g : _} {h : _} → Causal S Op g h → ℕ
+me_of c = c.me
