@@ -1,3 +1,4 @@
 mod Facts
 mod Logs
+mod Ready
 mod Tables

@@ -9,6 +9,11 @@ use Rattle.lr_base.specs.Kinds.{IsUpdate}
 use Rattle.lr_base.specs.Rules.{known_of}
 use Rattle.std.specs.List.{slice_get}
 
+-- an update whose stamp has these many parts, one of them for its place
+pub record Fits {Op : Type 0} (parts : ℕ) (u : LogUpdate Op) : Type 0 where
+  pub prev : length u.prev ≡ parts
+  pub place : u.spot.place < parts
+
 -- a logged update that can be applied: its stamp has these many parts, one of them for its place
 pub record IsLogged {Op : Type 0} (kind_of : Op → Kind) (parts : ℕ) (u : LogUpdate Op) : Type 0 where
   pub prev : length u.prev ≡ parts
@@ -18,6 +23,10 @@ pub record IsLogged {Op : Type 0} (kind_of : Op → Kind) (parts : ℕ) (u : Log
 -- each update of the list can be applied
 abbrev pub AllLogged : {Op : Type 0} → (Op → Kind) → ℕ → List (LogUpdate Op) → Type 0
 AllLogged kind_of parts updates = (k : ℕ) → ForSome (slice_get updates k) (IsLogged kind_of parts)
+
+-- each update of the list has a stamp of these many parts
+abbrev pub AllFit : {Op : Type 0} → ℕ → List (LogUpdate Op) → Type 0
+AllFit parts updates = (k : ℕ) → ForSome (slice_get updates k) (Fits parts)
 
 -- the stamp of each executed call has these many parts
 abbrev pub AllKnown : ℕ → List (Cid × Known) → Type 0

@@ -3,12 +3,13 @@ ghost use Rattle.std.specs.Prelude.{◌≡◌, ◌+◌, ◌<◌, ◌≤◌, leng
 ghost use Rattle.lr_base.specs.Config.{IsValid};
 ghost use Rattle.lr_causal.specs.Causal.{AllLogged, AllKnown};
 
+use crate::applying::apply_logged;
 use crate::calls::CallTable;
 use crate::log::Log;
 use crate::value::Value;
 use lr_base::lr_service::{Operation, Service};
 use crate::lateness::late;
-use lr_base::{Call, Cid, Config, Fresh, Known, LogUpdate, NoMemory, Spot, Stamp};
+use lr_base::{Call, Cid, Config, Fresh, Known, LogUpdate, NoMemory, Spot, Stamp, Text};
 use std::alloc::Global;
 
 /// The state of a replica that causal operations use.
@@ -38,7 +39,7 @@ impl<S: Service> Causal<S> {
     ghost use Rattle.std.specs.Prelude.{◌≡◌, ◌+◌, ◌<◌, ◌^◌, find, length, IfOk, OnOk, OnErr};
     ghost use Rattle.lr_base.specs.Config.{IsValid};
     ghost use Rattle.lr_base.specs.Kinds.{IsQuery, IsUpdate};
-    ghost use Rattle.lr_base.specs.Rules.{accepted, answer_of, first_state, fresh_of, known_of, same_cid, stamp_of, taken_before, update_of_call};
+    ghost use Rattle.lr_base.specs.Rules.{accepted, answer_of, applied, pruned, first_state, fresh_of, known_of, same_cid, stamp_of, taken_before, update_of_call};
     ghost use Rattle.lr_base.specs.Stamps.{part};
     ghost use Rattle.lr_causal.specs.State.{config_of, me_of, state_of};
 
@@ -134,5 +135,33 @@ impl<S: Service> Causal<S> {
         self.rep_ts.set_part(self.me, number);
         self.top = number;
         Ok((spot, stamp))
+    }
+
+    /// Applies all that is ready, and drops what is known everywhere.
+    pub fn settle(&mut self) -> Result<(), NoMemory>
+        ensures ok { OnOk result (state_of self.new ≡ pruned (config_of self.old).replicas (applied S.meaning (state_of self.old))) }
+        ensures err { OnErr result (state_of self.new ≡ state_of self.old) }
+        ensures config { config_of self.new ≡ config_of self.old }
+        ensures me { me_of self.new ≡ me_of self.old }
+    {
+        apply_logged(
+            self.log.allocator(),
+            self.log.updates(),
+            &mut self.value,
+            &mut self.calls,
+        )?;
+        if self.config.replicas == 1 {
+            self.log.clear_updates();
+        }
+        Ok(())
+    }
+
+    /// What a query with this label is answered, or nothing while something of its label isn't applied.
+    pub fn read(&self, label: &Stamp, op: &S::Op) -> Result<Option<Text>, NoMemory>
+        requires parts { length label.now ≡ (config_of self.now).replicas + 1 }
+        requires query { IsQuery (S.Op.kind_of op.now) }
+        ensures { IfOk result (λ answer. answer ≡ answer_of S.meaning (state_of self.now).value (state_of self.now).val_ts label.now op.now) }
+    {
+        self.value.read(label, op)
     }
 }

@@ -39,6 +39,11 @@ impl<O: Drop> Log<O> {
         }
     }
 
+    /// What makes room for more items.
+    pub fn allocator(&self) -> Global {
+        *self.updates.allocator()
+    }
+
     /// The logged updates, in the order of their spots.
     pub fn updates(&self) -> &[LogUpdate<O>]
         ensures { result.now ≡ self.now.updates }
