@@ -1,9 +1,10 @@
 //! What clients and replicas send one another.
-ghost use Rattle.std.specs.Prelude.{⊤, ◌≡◌, ◌<◌, length};
+ghost use Rattle.std.specs.Prelude.{⊤, ◌≡◌, ◌<◌, length, IfOk};
 ghost use Rattle.lr_base.specs.Rules.{stamp_of};
 
 use crate::names::{Cid, Spot};
-use crate::rows::Text;
+use crate::lr_service::Operation;
+use crate::rows::{NoMemory, Text};
 use crate::stamp::Stamp;
 use std::alloc::AllocError;
 
@@ -36,6 +37,35 @@ impl<O> LogUpdate<O> {
         let mut stamp = self.prev.copy();
         stamp.set_part(self.spot.place, self.spot.number);
         stamp
+    }
+}
+
+impl<O: Operation> LogUpdate<O> {
+    /// An update equal to this one.
+    pub fn copy(&self) -> Result<Self, NoMemory>
+        ensures { IfOk result (λ copied. copied ≡ self.now) }
+    {
+        let op = self.op.copy()?;
+        Ok(LogUpdate {
+            spot: self.spot,
+            cid: self.cid,
+            prev: self.prev.copy(),
+            op,
+        })
+    }
+}
+
+impl<O: Operation> Call<O> {
+    /// A call equal to this one.
+    pub fn copy(&self) -> Result<Self, NoMemory>
+        ensures { IfOk result (λ copied. copied ≡ self.now) }
+    {
+        let op = self.op.copy()?;
+        Ok(Call {
+            cid: self.cid,
+            prev: self.prev.copy(),
+            op,
+        })
     }
 }
 

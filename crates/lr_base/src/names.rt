@@ -28,14 +28,14 @@ impl Config {
 }
 
 /// A call, by its client and that client's count of calls, from 1.
-#[derive(Clone, Copy, PartialEq, Eq, Hash)]
+#[derive(Clone, Copy, PartialEq, Eq, PartialOrd, Ord, Hash)]
 pub struct Cid {
     pub client: u32,
     pub seq: u64,
 }
 
 /// Where an update was accepted: a replica's place, and that place's count, from 1.
-#[derive(Clone, Copy, PartialEq, Eq)]
+#[derive(Clone, Copy, PartialEq, Eq, PartialOrd, Ord)]
 pub struct Spot {
     pub place: u8,
     pub number: u64,

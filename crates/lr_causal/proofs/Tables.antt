@@ -1,5 +1,5 @@
 -- The entries of an indexed map, as the table of executed calls.
-use Rattle.std.proofs.Common.{◌≡◌, Bool, true, false, List, [], ◌∷◌, ◌++◌, length, Some, None, refl, subst, ap, ℕ}
+use Rattle.std.proofs.Common.{◌≡◌, Bool, true, false, List, [], ◌∷◌, ◌++◌, length, Some, None, refl, subst, ℕ}
 use Rattle.std.specs.Option.{ForSome}
 use Rattle.std.specs.Map.{lookup}
 use Rattle.lr_base.specs.declared.names.Cid.{Cid}
@@ -33,3 +33,7 @@ known_of-entered P (e ∷ calls) cid q known before own = go (same_cid q e.0) re
 -- a table with one more call, whose stamp has as many parts
 pub AllKnown-entered : (parts : ℕ) (calls new : List (Cid × Known)) (cid : Cid) (known : Known) → new ≡ calls ++ (cid, known) ∷ [] → length known.stamp ≡ parts → AllKnown parts calls → AllKnown parts new
 AllKnown-entered parts calls new cid known is long all = rw is (λ q. known_of-entered (λ k. length k.stamp ≡ parts) calls cid q known (all q) long)
+
+-- a table under another name
+pub AllKnown-along : (parts : ℕ) (calls same : List (Cid × Known)) → same ≡ calls → AllKnown parts calls → AllKnown parts same
+AllKnown-along parts calls same is all = rw is all

@@ -1,7 +1,9 @@
 -- Facts that a causal replica keeps.
-use Rattle.std.specs.Prelude.{◌≡◌, ◌+◌, ◌<◌, ◌≤◌, ℕ, length, List}
+use Rattle.std.specs.Prelude.{◌≡◌, ◌<◌, ℕ, length, List}
 use Rattle.std.specs.Option.{ForSome}
 use Rattle.lr_base.specs.declared.names.Cid.{Cid}
+use Rattle.lr_base.specs.declared.messages.Fresh.{Fresh}
+use Rattle.lr_base.specs.declared.messages.Fresh.TheVariants.{Again}
 use Rattle.lr_base.specs.declared.messages.Known.{Known}
 use Rattle.lr_base.specs.declared.messages.LogUpdate.{LogUpdate}
 use Rattle.lr_base.specs.declared.lr_service.Kind.{Kind}
@@ -31,3 +33,8 @@ AllFit parts updates = (k : ℕ) → ForSome (slice_get updates k) (Fits parts)
 -- the stamp of each executed call has these many parts
 abbrev pub AllKnown : ℕ → List (Cid × Known) → Type 0
 AllKnown parts calls = (cid : Cid) → ForSome (known_of calls cid) (λ known. length known.stamp ≡ parts)
+
+-- the stamp of a call that was taken before has these many parts
+abbrev pub AgainHasParts : ℕ → Fresh → Type 0
+AgainHasParts parts (Again spot stamp) = length stamp ≡ parts
+AgainHasParts parts _ = Unit {0}

@@ -1,5 +1,5 @@
 -- Updates that wait to be applied, as references into a log.
-use Rattle.std.specs.Prelude.{◌≡◌, ℕ, List, map, remove, Option, Some, slice_get}
+use Rattle.std.specs.Prelude.{◌≡◌, ℕ, List, map, remove, Some, slice_get}
 use Rattle.std.specs.Borrow.{Bor}
 use Rattle.lr_base.specs.declared.messages.LogUpdate.{LogUpdate}
 use Rattle.lr_base.specs.Rules.{take_ready}

@@ -1,5 +1,5 @@
 //! Which calls were executed, and where.
-ghost use Rattle.std.specs.Prelude.{◌≡◌, ◌-◌, [], ◌∷◌, ◌++◌, length, take, None, is_some, IfOk, OnOk, OnErr};
+ghost use Rattle.std.specs.Prelude.{◌≡◌, ◌-◌, [], ◌∷◌, ◌++◌, length, map, take, None, is_some, IfOk, OnOk, OnErr};
 ghost use Rattle.std.specs.Option.{option_copied};
 ghost use Rattle.lr_base.specs.Rules.{known_of};
 
@@ -71,5 +71,13 @@ impl CallTable {
     {
         let known = self.known.clone()?;
         Ok(CallTable { known })
+    }
+
+    /// The executed calls, in the order in which they were executed.
+    pub fn cids(&self, alloc: Global) -> Result<Vec<Cid>, NoMemory>
+        ensures { IfOk result (λ cids. cids.items ≡ map (λ e. e.0) self.now) }
+    {
+        let cids = self.known.keys().copied().collect(alloc)?;
+        Ok(cids)
     }
 }

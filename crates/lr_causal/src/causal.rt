@@ -5,10 +5,10 @@ ghost use Rattle.lr_causal.specs.Causal.{AllLogged, AllKnown};
 
 use crate::applying::apply_logged;
 use crate::calls::CallTable;
+use crate::lateness::late;
 use crate::log::Log;
 use crate::value::Value;
 use lr_base::lr_service::{Operation, Service};
-use crate::lateness::late;
 use lr_base::{Call, Cid, Config, Fresh, Known, LogUpdate, NoMemory, Spot, Stamp, Text};
 use std::alloc::Global;
 
@@ -36,7 +36,8 @@ pub struct Causal<S: Service> {
 }
 
 impl<S: Service> Causal<S> {
-    ghost use Rattle.std.specs.Prelude.{◌≡◌, ◌+◌, ◌<◌, ◌^◌, find, length, IfOk, OnOk, OnErr};
+    ghost use Rattle.std.specs.Prelude.{◌≡◌, ◌+◌, ◌<◌, ◌^◌, find, length, IfSome, IfOk, OnOk, OnErr};
+    ghost use Rattle.lr_causal.specs.Causal.{AgainHasParts};
     ghost use Rattle.lr_base.specs.Config.{IsValid};
     ghost use Rattle.lr_base.specs.Kinds.{IsQuery, IsUpdate};
     ghost use Rattle.lr_base.specs.Rules.{accepted, answer_of, applied, pruned, first_state, fresh_of, known_of, same_cid, stamp_of, taken_before, update_of_call};
@@ -67,9 +68,114 @@ impl<S: Service> Causal<S> {
         })
     }
 
+    /// What the run is set up with.
+    pub fn config(&self) -> Config
+        ensures { result ≡ config_of self.now }
+    {
+        self.config
+    }
+
+    /// Which replica it is.
+    pub fn me(&self) -> u8
+        ensures me { result ≡ me_of self.now }
+        ensures own_place { result < (config_of self.now).replicas }
+    {
+        self.me
+    }
+
+    /// The greatest reading of its clock.
+    pub fn clock(&self) -> u64
+        ensures { result ≡ (state_of self.now).clock }
+    {
+        self.clock
+    }
+
+    /// How many items were received of each place.
+    pub fn rep_ts(&self) -> &Stamp
+        ensures rep_ts { result.now ≡ (state_of self.now).rep_ts }
+        ensures parts { length result.now ≡ (config_of self.now).replicas + 1 }
+    {
+        &self.rep_ts
+    }
+
+    /// What the value stands for.
+    pub fn val_ts(&self) -> &Stamp
+        ensures val_ts { result.now ≡ (state_of self.now).val_ts }
+        ensures parts { length result.now ≡ (config_of self.now).replicas + 1 }
+    {
+        self.value.val_ts()
+    }
+
+    /// The service's value.
+    pub fn value(&self) -> &S
+        ensures { result.now ≡ (state_of self.now).value }
+    {
+        self.value.value()
+    }
+
+    /// What was received and is kept.
+    pub fn log(&self) -> &Log<S::Op>
+        ensures updates { result.now.updates ≡ (state_of self.now).updates }
+        ensures acks { result.now.acks ≡ (state_of self.now).acks }
+    {
+        &self.log
+    }
+
+    /// Which calls were executed, and where.
+    pub fn calls(&self) -> &CallTable
+        ensures { result.now ≡ (state_of self.now).calls }
+    {
+        &self.calls
+    }
+
+    /// The stamp of the ordered update that was received last.
+    pub fn order_ts(&self) -> &Stamp
+        ensures { result.now ≡ (state_of self.now).order_ts }
+    {
+        &self.order_ts
+    }
+
+    /// The stamp of the immediate update that was received last.
+    pub fn imm_ts(&self) -> &Stamp
+        ensures { result.now ≡ (state_of self.now).imm_ts }
+    {
+        &self.imm_ts
+    }
+
+    /// The number of the update that was accepted here last.
+    pub fn top(&self) -> u64
+        ensures { result ≡ (state_of self.now).top }
+    {
+        self.top
+    }
+
+    /// A replica equal to this one.
+    pub fn copy(&self) -> Result<Self, NoMemory>
+        ensures state { IfOk result (λ copied. state_of copied ≡ state_of self.now) }
+        ensures config { IfOk result (λ copied. config_of copied ≡ config_of self.now) }
+        ensures me { IfOk result (λ copied. me_of copied ≡ me_of self.now) }
+    {
+        let log = self.log.copy()?;
+        let value = self.value.copy()?;
+        let calls = self.calls.copy()?;
+        Ok(Causal {
+            config: self.config,
+            me: self.me,
+            clock: self.clock,
+            rep_ts: self.rep_ts.copy(),
+            log,
+            value,
+            calls,
+            order_ts: self.order_ts.copy(),
+            imm_ts: self.imm_ts.copy(),
+            top: self.top,
+        })
+    }
+
     /// Whether an update with this call and time is new here, and if not, why.
     pub fn fresh(&self, cid: Cid, time: u64) -> Fresh
-        ensures { result ≡ fresh_of (config_of self.now).delta (state_of self.now) cid time }
+        ensures parts { AgainHasParts ((config_of self.now).replicas + 1) result }
+        ensures fresh { result ≡ fresh_of (config_of self.now).delta (state_of self.now) cid time }
     {
         if late(time, self.config.delta, self.clock) {
             return Fresh::Late {
@@ -91,7 +197,8 @@ impl<S: Service> Causal<S> {
 
     // Where the call was executed, or else the least spot at which it is logged.
     fn taken_before(&self, cid: Cid) -> Option<Known>
-        ensures { result ≡ taken_before (known_of (state_of self.now).calls cid) (find (λ u. same_cid u.cid cid) (state_of self.now).updates) }
+        ensures parts { IfSome result (λ known. length known.stamp ≡ (config_of self.now).replicas + 1) }
+        ensures taken { result ≡ taken_before (known_of (state_of self.now).calls cid) (find (λ u. same_cid u.cid cid) (state_of self.now).updates) }
     {
         if let Some(known) = self.calls.find(cid) {
             return Some(known.copy());
@@ -110,6 +217,7 @@ impl<S: Service> Causal<S> {
         requires not_worn { part (state_of self.old).rep_ts (me_of self.old) < 2 ^ 62 }
         ensures ok { OnOk result (state_of self.new ≡ accepted (me_of self.old) (state_of self.old) call.now) }
         ensures spot { IfOk result (λ taken. taken.0 ≡ (update_of_call (me_of self.old) (state_of self.old) call.now).spot) }
+        ensures parts { IfOk result (λ taken. length taken.1 ≡ (config_of self.old).replicas + 1) }
         ensures stamp { IfOk result (λ taken. taken.1 ≡ stamp_of (update_of_call (me_of self.old) (state_of self.old) call.now)) }
         ensures err { OnErr result (state_of self.new ≡ state_of self.old) }
         ensures config { config_of self.new ≡ config_of self.old }

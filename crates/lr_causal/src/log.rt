@@ -1,10 +1,11 @@
 //! What a replica received and keeps: updates and acknowledgements.
-ghost use Rattle.std.specs.Prelude.{◌≡◌, ◌↔◌, ◌<◌, ◌≤◌, ◌+◌, [], length, find, position, IsTrue, OnOk, OnErr};
+ghost use Rattle.std.specs.Prelude.{◌≡◌, ◌↔◌, ◌<◌, ◌≤◌, ◌+◌, [], length, find, position, IsTrue, IfOk, OnOk, OnErr};
 ghost use Rattle.std.specs.Option.{option_map, option_copied};
 ghost use Rattle.std.specs.List.{position_or_len};
 ghost use Rattle.lr_base.specs.Rules.{put_update, same_cid, is_before as spot_is_before};
 ghost use Rattle.lr_causal.specs.Items.{Items, item_count};
 
+use lr_base::lr_service::Operation;
 use lr_base::{Cid, LogAck, LogUpdate, NoMemory, Spot};
 use std::alloc::Global;
 use std::marker::Model;
@@ -99,6 +100,20 @@ impl<O: Drop> Log<O> {
         ensures { self.new ≡ record self.old { updates = [] } }
     {
         self.updates.clear();
+    }
+}
+
+impl<O: Operation> Log<O> {
+    /// A log equal to this one.
+    pub fn copy(&self) -> Result<Self, NoMemory>
+        ensures { IfOk result (λ copied. copied ≡ self.now) }
+    {
+        let mut updates = Vec::new(self.allocator());
+        for update in self.updates.as_slice() {
+            updates.push(update.copy()?)?;
+        }
+        let acks = Vec::from_slice(self.allocator(), self.acks.as_slice())?;
+        Ok(Log { updates, acks })
     }
 }
 

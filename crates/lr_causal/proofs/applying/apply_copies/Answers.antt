@@ -1,4 +1,4 @@
-use Rattle.std.proofs.Common.{◌≡◌, length, ap, refl}
+use Rattle.std.proofs.Common.{length, ap, refl}
 use Rattle.lr_causal.specs.Applied.{Applied}
 use Rattle.lr_causal.proofs.Facts.{AllLogged-along}
 use Rattle.lr_causal.proofs.applying.apply_copies.Goals as goal

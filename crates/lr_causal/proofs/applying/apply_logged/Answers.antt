@@ -1,6 +1,6 @@
-use Rattle.std.proofs.Common.{◌≡◌, ◌∙◌, length, ap, refl, arith}
-use Rattle.lr_base.specs.Rules.{waiting, is_covered}
-use Rattle.lr_causal.specs.Causal.{AllLogged, IsLogged}
+use Rattle.std.proofs.Common.{◌∙◌, length, ap, refl, arith}
+use Rattle.lr_base.specs.Rules.{waiting}
+use Rattle.lr_causal.specs.Causal.{AllLogged}
 use Rattle.lr_causal.specs.Waiting.{behind}
 use Rattle.lr_causal.proofs.Facts.{AllFit-logged, AllLogged-along, AllLogged-filter}
 use Rattle.lr_causal.proofs.Ready.{behind-read}
@@ -13,11 +13,11 @@ waiting-requires g c =
 pub apply_only-requires-clause-logged : goal.apply_only-requires-clause-logged
 apply_only-requires-clause-logged g c =
     let all : AllLogged g.S.Op.Operation.kind_of (length c.args.value.now.val_ts) (behind c.as_slice.result.now) =
-      AllLogged-along g.S.Op.Operation.kind_of _ _ (waiting c.val_ts.result.now c.args.updates.now) _ (ap behind c.as_slice.ensures.value ∙ c.in_ok-found.ensures) refl
-        (AllLogged-filter g.S.Op.Operation.kind_of _ _ c.args.updates.now c.requires.logged) in
+    AllLogged-along g.S.Op.Operation.kind_of _ _ (waiting c.val_ts.result.now c.args.updates.now) _ (ap behind c.as_slice.ensures.value ∙ c.in_ok-found.ensures) refl
+    (AllLogged-filter g.S.Op.Operation.kind_of _ _ c.args.updates.now c.requires.logged) in
     all 0 c.only-item.result.now (behind-read c.as_slice.result.now 0 c.only-item.result (omega arith) c.only-item.is)
 
 pub apply_copies-requires-clause-logged : goal.apply_copies-requires-clause-logged
 apply_copies-requires-clause-logged g c =
     AllLogged-along g.S.Op.Operation.kind_of _ _ (waiting c.val_ts.result.now c.args.updates.now) _ c.in_ok-found.ensures refl
-      (AllLogged-filter g.S.Op.Operation.kind_of _ _ c.args.updates.now c.requires.logged)
+    (AllLogged-filter g.S.Op.Operation.kind_of _ _ c.args.updates.now c.requires.logged)

@@ -10,8 +10,8 @@ invariant_of-self-2-clause-logged g c =
     let place : c.args.self.now.me < c.args.self.now.config.replicas + 1 = omega arith in
     let update : IsUpdate (g.S.Op.Operation.kind_of c.in_ok-copy.field-0) = rw c.in_ok-copy.ensures c.requires.update in
     AllLogged-more g.S.Op.Operation.kind_of _ c.args.self.now.log c.add_update.new.self _ c.in-Ok.ensures.ok
-      (record { prev = prev; place = place; update = update })
-      c.args.self.now.logged
+    (record { prev = prev; place = place; update = update })
+    c.args.self.now.logged
 
 pub invariant_of-self-in_default-clause-logged : goal.invariant_of-self-in_default-clause-logged
 invariant_of-self-in_default-clause-logged g c = AllLogged-same g.S.Op.Operation.kind_of _ c.args.self.now.log c.add_update.new.self c.in_default.ensures.err c.args.self.now.logged

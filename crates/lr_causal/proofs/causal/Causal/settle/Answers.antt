@@ -1,5 +1,3 @@
-use Rattle.std.proofs.Common.{◌≡◌, ap, refl}
-use Rattle.lr_causal.specs.Items.{Items}
 use Rattle.lr_causal.proofs.Facts.{AllLogged-along}
 use Rattle.lr_causal.proofs.causal.Causal.settle.Goals as goal
 

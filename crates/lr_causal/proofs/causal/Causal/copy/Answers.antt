@@ -1,0 +1,12 @@
+use Rattle.std.proofs.Common.{ap, refl}
+use Rattle.lr_causal.specs.Items.{Items}
+use Rattle.lr_causal.proofs.Facts.{AllLogged-along}
+use Rattle.lr_causal.proofs.Tables.{AllKnown-along}
+use Rattle.lr_causal.proofs.causal.Causal.copy.Goals as goal
+
+pub invariant_of-result-clause-logged : goal.invariant_of-result-clause-logged
+invariant_of-result-clause-logged g c =
+    AllLogged-along g.S.Op.Operation.kind_of _ _ c.args.self.now.log.updates c.in_ok-log.log.updates (ap (λ (log : Items _). log.updates) c.in_ok-log.ensures) refl c.args.self.now.logged
+
+pub invariant_of-result-clause-known : goal.invariant_of-result-clause-known
+invariant_of-result-clause-known g c = AllKnown-along _ c.args.self.now.calls c.in_ok-calls.calls c.in_ok-calls.ensures c.args.self.now.known
