@@ -5,3 +5,6 @@ mod texts;
 
 pub use counts::Tally;
 pub use op::TallyOp;
+
+#[cfg(test)]
+mod tests;
