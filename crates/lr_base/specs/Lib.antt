@@ -1,5 +1,9 @@
 pub mod Config
-pub mod Stamps
 pub mod Kinds
 pub mod Meaning
 pub mod Rules
+pub mod Stamps
+pub mod Tally
+pub mod TallyLaw
+pub mod Word
+pub mod WordTexts

@@ -5,11 +5,16 @@ mod events;
 pub mod lr_service;
 mod messages;
 mod names;
+mod numbers;
 mod rows;
 mod stamp;
+pub mod svc_tally;
+mod word;
 
 pub use events::{Event, Outcome, Refusal, Sent, StateLine, Step};
 pub use messages::{Call, Fresh, Known, LogAck, LogUpdate, Message};
 pub use names::{Actor, Cid, Config, Spot};
+pub use numbers::read_number;
 pub use rows::{NoMemory, Rows, Text};
 pub use stamp::Stamp;
+pub use word::Word;
