@@ -1,0 +1,16 @@
+//! The outside: what is read and written, in memory and through the system, and how it fails.
+#![tactic(auto)]
+
+mod adapters;
+mod memory;
+mod sink;
+mod source;
+#[cfg(test)]
+mod tests;
+mod whole;
+
+pub use adapters::{Reading, Writing};
+pub use memory::{FixedSink, MemSink, MemSource};
+pub use sink::Sink;
+pub use source::{Failed, Source};
+pub use whole::{ReadEnd, read_up_to, write_whole};
