@@ -3,21 +3,21 @@ use Rattle.std.specs.Prelude.{ℕ, Bool, List, ◌==◌}
 use Rattle.std.specs.List.{list_any}
 
 -- the bytes left, the numbers of the calls that are to fail, how many calls were made, and how many failed
-pub record Given : Type 0 where
+pub record Supply : Type 0 where
   pub left : List ℕ
   pub failing : List ℕ
   pub calls : ℕ
   pub faults : ℕ
 
 -- the bytes held, the numbers of the calls that are to fail, how many calls were made, and how many failed
-pub record Held : Type 0 where
+pub record Store : Type 0 where
   pub held : List ℕ
   pub failing : List ℕ
   pub calls : ℕ
   pub faults : ℕ
 
 -- the bytes held, how many more find room, and how many calls failed
-pub record Bounded : Type 0 where
+pub record BoundedStore : Type 0 where
   pub held : List ℕ
   pub room : ℕ
   pub faults : ℕ

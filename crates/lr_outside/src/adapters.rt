@@ -1,12 +1,11 @@
 //! Sources and sinks over std's readers and writers, as standard input and output.
-ghost use Rattle.std.specs.Prelude.{◌≡◌, None};
-ghost use Rattle.std.specs.Io.{WritesAtMost};
+ghost use Rattle.std.specs.Prelude.{◌≡◌};
 
 use crate::sink::Sink;
 use crate::source::{Failed, Source};
 use std::io::{Read, Write};
 
-/// A source over a reader. It counts the reader's failures, and tells nothing of the bytes.
+/// A source over a reader, whose failures it counts. It tells the bytes left where the reader does; standard input doesn't.
 #[derive(Drop)]
 pub struct Reading<R> {
     inner: R,
@@ -23,23 +22,21 @@ impl<R: Read> Reading<R> {
 }
 
 impl<R: Read> Source for Reading<R> {
-    ghost left = { λ _. None };
+    ghost left = { λ reading. R.remaining reading.inner };
 
-    ghost faults = { λ it. it.faults };
+    ghost faults = { λ reading. reading.faults };
 
     fn read(&mut self, into: &mut [u8]) -> Result<usize, Failed> {
-        match self.inner.read(into) {
-            Ok(count) => Ok(count),
-            Err(_) => {
-                self.faults = self.faults.saturating_add(1);
-                Err(Failed)
-            }
-        }
+        let Ok(count) = self.inner.read(into) else {
+            self.faults = self.faults.saturating_add(1);
+            return Err(Failed);
+        };
+        Ok(count)
     }
 }
 
-/// A sink over a writer. It counts the writer's failures, and tells nothing of the bytes. Each write is flushed, so that a
-/// writer with a buffer fails at the write that it can't pass on.
+/// A sink over a writer, whose failures it counts. It tells the bytes held where the writer does; standard output and
+/// standard error don't. It never flushes: these two pass on each write at once, and a full device fails that write.
 #[derive(Drop)]
 pub struct Writing<W> {
     inner: W,
@@ -56,15 +53,15 @@ impl<W: Write> Writing<W> {
 }
 
 impl<W: Write> Sink for Writing<W> {
-    ghost held = { λ _. None };
+    ghost held = { λ writing. W.contents writing.inner };
 
-    ghost faults = { λ it. it.faults };
+    ghost faults = { λ writing. writing.faults };
 
     fn write(&mut self, piece: &[u8]) -> Result<usize, Failed> {
         if piece.is_empty() {
             return Ok(0);
         }
-        match write_through(&mut self.inner, piece) {
+        match self.inner.write(piece) {
             // A writer that takes nothing of a piece has failed too.
             Ok(0) | Err(_) => {
                 self.faults = self.faults.saturating_add(1);
@@ -73,13 +70,4 @@ impl<W: Write> Sink for Writing<W> {
             Ok(count) => Ok(count),
         }
     }
-}
-
-// Writes what the writer takes of the piece, and empties the writer's buffer.
-fn write_through<W: Write>(inner: &mut W, piece: &[u8]) -> std::io::Result<usize>
-    ensures { WritesAtMost result piece.now }
-{
-    let count = inner.write(piece)?;
-    inner.flush()?;
-    Ok(count)
 }

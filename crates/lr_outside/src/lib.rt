@@ -2,7 +2,9 @@
 #![tactic(auto)]
 
 mod adapters;
-mod memory;
+mod fixed_sink;
+mod mem_sink;
+mod mem_source;
 mod sink;
 mod source;
 #[cfg(test)]
@@ -10,7 +12,9 @@ mod tests;
 mod whole;
 
 pub use adapters::{Reading, Writing};
-pub use memory::{FixedSink, MemSink, MemSource};
+pub use fixed_sink::FixedSink;
+pub use mem_sink::MemSink;
+pub use mem_source::MemSource;
 pub use sink::Sink;
 pub use source::{Failed, Source};
 pub use whole::{ReadEnd, read_up_to, write_whole};
