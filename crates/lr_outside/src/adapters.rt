@@ -15,7 +15,8 @@ pub struct Reading<R> {
 impl<R: Read> Reading<R> {
     /// A source over this reader, with no fault counted.
     pub fn new(inner: R) -> Self
-        ensures { result ≡ record { inner = inner; faults = 0 } }
+        ensures left { ⟦<Reading<R> as Source>⟧.left result ≡ R.remaining inner }
+        ensures faults { ⟦<Reading<R> as Source>⟧.faults result ≡ 0 }
     {
         Reading { inner, faults: 0 }
     }
@@ -46,7 +47,8 @@ pub struct Writing<W> {
 impl<W: Write> Writing<W> {
     /// A sink over this writer, with no fault counted.
     pub fn new(inner: W) -> Self
-        ensures { result ≡ record { inner = inner; faults = 0 } }
+        ensures held { ⟦<Writing<W> as Sink>⟧.held result ≡ W.contents inner }
+        ensures faults { ⟦<Writing<W> as Sink>⟧.faults result ≡ 0 }
     {
         Writing { inner, faults: 0 }
     }
