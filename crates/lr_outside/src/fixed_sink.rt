@@ -1,0 +1,89 @@
+//! A sink in memory with room for so many bytes.
+ghost use Rattle.std.specs.Prelude.{◌≡◌, ◌-◌, ◌<◌, ◌++◌, [], Some, length, min, take, IsErr, IfOk, OnErr};
+ghost use Rattle.std.specs.Io.{WritesAtMost};
+ghost use Rattle.std.specs.Io.KnownBytes.{WriteAppends};
+ghost use Rattle.lr_outside.specs.Faults.{HasCause, Rose, one_more};
+
+use crate::sink::Sink;
+use crate::source::Failed;
+use lr_base::{NoMemory, Rows};
+use std::alloc::Global;
+use std::marker::Model;
+
+/// A sink that takes so many bytes in all, and then fails. Memory for them is taken when it is made; a write that finds none
+/// fails too.
+#[derive(Debug, Drop)]
+pub struct FixedSink {
+    bytes: Rows<u8>,
+    room: u64,
+    faults: u64,
+}
+
+impl Model for FixedSink {
+    ghost use Rattle.lr_outside.specs.Memory.{BoundedStore};
+
+    ghost Value = { BoundedStore };
+
+    ghost view = { λ it. record { held = it.bytes; room = it.room; faults = it.faults } };
+}
+
+impl FixedSink {
+    /// A sink with room for so many bytes, whose memory is taken here.
+    pub fn new(alloc: Global, room: u64) -> Result<FixedSink, NoMemory>
+        ensures { IfOk result (λ sink. sink ≡ record { held = []; room = room; faults = 0 }) }
+    {
+        let zeros = vec![in alloc; 0; room as usize]?;
+        let mut bytes = Rows::from_slice(alloc, zeros.as_slice())?;
+        // Clearing keeps the memory, so no write within the room asks for more.
+        bytes.clear();
+        Ok(FixedSink {
+            bytes,
+            room,
+            faults: 0,
+        })
+    }
+
+    /// The bytes held.
+    pub fn bytes(&self) -> &Rows<u8>
+        ensures { result.now ≡ self.now.held }
+    {
+        &self.bytes
+    }
+}
+
+impl Sink for FixedSink {
+    ghost held = { λ sink. Some sink.held };
+
+    ghost faults = { λ sink. sink.faults };
+
+    fn write(&mut self, piece: &[u8]) -> Result<usize, Failed>
+        ensures bound { WritesAtMost result piece.now }
+        ensures bytes { WriteAppends (Some self.old.held) (Some self.new.held) result piece.now }
+        ensures cause { HasCause self.old.faults self.new.faults result }
+        ensures none_taken { result ≡ Ok 0 → 0 < length piece.now →
+            Rose self.old.faults self.new.faults }
+
+        // It takes as much as finds room, and fails where nothing of a piece does.
+        ensures empty { piece.now ≡ [] → result ≡ Ok 0 }
+        ensures full { self.old.room ≡ 0 → 0 < length piece.now → IsErr result }
+        ensures fitting { IfOk result (λ n. n ≡ min self.old.room (length piece.now)) }
+        ensures ok { IfOk result (λ n. self.new ≡
+            record self.old { held = self.old.held ++ take n piece.now; room = self.old.room - n }) }
+        ensures err { OnErr result (self.new ≡ record self.old { faults = one_more self.old.faults }) }
+    {
+        if piece.is_empty() {
+            return Ok(0);
+        }
+        if self.room == 0 {
+            self.faults = self.faults.saturating_add(1);
+            return Err(Failed);
+        }
+        let count = piece.len().min(self.room as usize);
+        let Ok(()) = self.bytes.extend(&piece[..count]) else {
+            self.faults = self.faults.saturating_add(1);
+            return Err(Failed);
+        };
+        self.room -= count as u64;
+        Ok(count)
+    }
+}

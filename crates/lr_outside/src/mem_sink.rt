@@ -1,0 +1,89 @@
+//! A sink in memory, whose failures are known beforehand.
+ghost use Rattle.std.specs.Prelude.{◌≡◌, ◌<◌, ◌++◌, [], Some, length, IsTrue, IsErr, IfOk, OnOk, OnErr};
+ghost use Rattle.std.specs.Io.{WritesAtMost};
+ghost use Rattle.std.specs.Io.KnownBytes.{WriteAppends};
+ghost use Rattle.lr_outside.specs.Faults.{HasCause, Rose, one_more};
+ghost use Rattle.lr_outside.specs.Memory.{is_listed};
+
+use crate::sink::Sink;
+use crate::source::Failed;
+use lr_base::Rows;
+use std::alloc::Global;
+use std::marker::Model;
+
+/// A sink that keeps what it takes in memory, and takes each piece whole. Its listed calls fail, and so does one that finds
+/// no memory. Calls are numbered from 1, failing ones too; a number stays at 2^64 - 1.
+#[derive(Debug, Drop)]
+pub struct MemSink {
+    bytes: Rows<u8>,
+    failing: Rows<u64>,
+    calls: u64,
+    faults: u64,
+}
+
+impl Model for MemSink {
+    ghost use Rattle.lr_outside.specs.Memory.{Store};
+
+    ghost Value = { Store };
+
+    ghost view = { λ it. record {
+      held = it.bytes;
+      failing = it.failing;
+      calls = it.calls;
+      faults = it.faults;
+    } };
+}
+
+impl MemSink {
+    /// A sink that holds nothing, whose writes of these numbers fail.
+    pub fn new(alloc: Global, failing: Rows<u64>) -> MemSink
+        ensures { result ≡ record { held = []; failing = failing; calls = 0; faults = 0 } }
+    {
+        MemSink {
+            bytes: Rows::new(alloc),
+            failing,
+            calls: 0,
+            faults: 0,
+        }
+    }
+
+    /// The bytes held.
+    pub fn bytes(&self) -> &Rows<u8>
+        ensures { result.now ≡ self.now.held }
+    {
+        &self.bytes
+    }
+}
+
+impl Sink for MemSink {
+    ghost held = { λ sink. Some sink.held };
+
+    ghost faults = { λ sink. sink.faults };
+
+    fn write(&mut self, piece: &[u8]) -> Result<usize, Failed>
+        ensures bound { WritesAtMost result piece.now }
+        ensures bytes { WriteAppends (Some self.old.held) (Some self.new.held) result piece.now }
+        ensures cause { HasCause self.old.faults self.new.faults result }
+        ensures none_taken { result ≡ Ok 0 → 0 < length piece.now →
+            Rose self.old.faults self.new.faults }
+
+        // The listed calls fail, and each other one takes the whole piece unless there is no memory.
+        ensures listed { IsTrue (is_listed self.old.failing (one_more self.old.calls)) → IsErr result }
+        ensures whole { IfOk result (λ n. n ≡ length piece.now) }
+        ensures ok { OnOk result (self.new ≡
+            record self.old { held = self.old.held ++ piece.now; calls = one_more self.old.calls }) }
+        ensures err { OnErr result (self.new ≡
+            record self.old { calls = one_more self.old.calls; faults = one_more self.old.faults }) }
+    {
+        self.calls = self.calls.saturating_add(1);
+        if self.failing.as_slice().contains(&self.calls) {
+            self.faults = self.faults.saturating_add(1);
+            return Err(Failed);
+        }
+        let Ok(()) = self.bytes.extend(piece) else {
+            self.faults = self.faults.saturating_add(1);
+            return Err(Failed);
+        };
+        Ok(piece.len())
+    }
+}
