@@ -3,4 +3,4 @@
 
 mod script;
 
-pub use script::{Cause, Header, Name, ScriptFault};
+pub use script::{Cause, Header, Name, ScriptFault, print_event, read_header, read_script};

@@ -1,4 +1,16 @@
 //! A script: what its header says, and why bytes are no script.
+mod event_lines;
+mod fields;
+mod heading;
+mod lines;
+mod numbers;
+mod reading;
+#[cfg(test)]
+mod tests;
+
+pub use event_lines::print_event;
+pub use reading::{read_header, read_script};
+
 use lr_base::Config;
 use thiserror::Error;
 
