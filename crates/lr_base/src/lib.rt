@@ -5,11 +5,13 @@ mod events;
 pub mod lr_service;
 mod messages;
 mod names;
+mod numbers;
 mod rows;
 mod stamp;
 
 pub use events::{Event, Outcome, Refusal, Sent, StateLine, Step};
 pub use messages::{Call, LogAck, LogUpdate, Message};
 pub use names::{Actor, Cid, Config, Spot};
+pub use numbers::read_number;
 pub use rows::{NoMemory, Rows, Text};
 pub use stamp::Stamp;
