@@ -1,15 +1,19 @@
 -- The first cause at a bad line.
-use Rattle.std.specs.Prelude.{◌≡◌, ◌≢◌, ℕ, ◌+◌, ◌<◌, ◌≤◌, ◌^◌, ◌==◌, ◌⊎◌, true, false, List, [], ◌∷◌, ◌++◌}
+use Rattle.std.specs.Prelude.{◌≡◌, ◌≢◌, ℕ, ◌+◌, ◌<◌, ◌≤◌, ◌^◌, ◌==◌, ◌⊎◌, true, false, List, [], ◌∷◌, ◌++◌, length}
 use Rattle.std.specs.Fmt.{decimal}
-use Rattle.std.specs.List.{list_any}
+use Rattle.std.specs.List.{All, list_any}
 use Rattle.lr_base.specs.Meaning.{Meaning, is_printable}
 use Rattle.lr_base.specs.declared.names.Config.{Config}
 use Rattle.lr_sim.specs.declared.script.Cause.{Cause}
-use Rattle.lr_sim.specs.declared.script.Cause.TheVariants.{Unended, Byte, Event, Fields, Number, Range, Op}
+use Rattle.lr_sim.specs.declared.script.Cause.TheVariants.{TooLong, Unended, Byte, Header, Event as NoWord, Fields, Number, Range, Op}
 use Rattle.lr_sim.specs.declared.script.ScriptFault.{ScriptFault}
 use Rattle.lr_sim.specs.declared.script.ScriptFault.TheVariants.{Line, NoMemory}
 use Rattle.lr_sim.specs.declared.script.fields.Word.{Word}
 use Rattle.lr_sim.specs.declared.script.fields.Word.TheVariants.{Call, Deliver, Show}
+use Rattle.lr_sim.specs.declared.script.Header.{Header as Head}
+use Rattle.lr_base.specs.declared.events.Event.{Event}
+use Rattle.lr_sim.specs.Texts.{header_text}
+use Rattle.lr_sim.specs.Script.{script_text, IsSetUp, Fits}
 use Rattle.lr_sim.specs.Fields.{spaces, word_text, four_fields, IsCallFields, IsNoNumber}
 
 -- there is a line feed among the bytes
@@ -88,18 +92,53 @@ IsBadShow config fields Range = (replica : ℕ) × (fields ≡ decimal replica) 
 IsBadShow config fields _ = ⊥
 
 -- what stands behind an event's word is not what the word asks for
-abbrev pub IsBadRest : {Value Op : Type 0} → Meaning Value Op → Config → Word → List ℕ → Cause → Type 0
-IsBadRest m config Call fields cause = IsBadCall m config fields cause
-IsBadRest m config Deliver fields cause = IsBadDeliver fields cause
-IsBadRest m config Show fields cause = IsBadShow config fields cause
+abbrev pub IsBadFields : {Value Op : Type 0} → Meaning Value Op → Config → Word → List ℕ → Cause → Type 0
+IsBadFields m config Call fields cause = IsBadCall m config fields cause
+IsBadFields m config Deliver fields cause = IsBadDeliver fields cause
+IsBadFields m config Show fields cause = IsBadShow config fields cause
 
 -- a printable line is no event's
 pub data IsBadEvent {Value Op : Type 0} (m : Meaning Value Op) (config : Config) (line : List ℕ) : Cause → Type 0 where
-  no_word : ((word : Word) → line ≢ word_text word) → ((word : Word) (rest : List ℕ) → line ≢ word_text word ++ 32 ∷ rest) → IsBadEvent m config line Event
+  no_word : ((word : Word) → line ≢ word_text word) → ((word : Word) (rest : List ℕ) → line ≢ word_text word ++ 32 ∷ rest) → IsBadEvent m config line NoWord
   word_alone : (word : Word) → line ≡ word_text word → IsBadEvent m config line Fields
-  bad_rest : (word : Word) (rest : List ℕ) (cause : Cause) → line ≡ word_text word ++ 32 ∷ rest → IsBadRest m config word rest cause → IsBadEvent m config line cause
+  bad_rest : (word : Word) (rest : List ℕ) (cause : Cause) → line ≡ word_text word ++ 32 ∷ rest → IsBadFields m config word rest cause → IsBadEvent m config line cause
+
+-- the bytes don't begin with an event's line
+pub data IsBadLine {Value Op : Type 0} (m : Meaning Value Op) (config : Config) (bytes : List ℕ) : Cause → Type 0 where
+  no_line : (cause : Cause) → IsNoLine bytes cause → IsBadLine m config bytes cause
+  no_event : (line later : List ℕ) (cause : Cause) → bytes ≡ line ++ 10 ∷ later → is_printable line ≡ true → IsBadEvent m config line cause → IsBadLine m config bytes cause
+
+-- the bytes don't begin with a header's line
+pub data IsBadHead (bytes : List ℕ) : ℕ → Cause → Type 0 where
+  too_long : 8388608 < length bytes → IsBadHead bytes 0 TooLong
+  empty : bytes ≡ [] → IsBadHead bytes 1 Header
+  no_line : (cause : Cause) → length bytes ≤ 8388608 → 1 ≤ length bytes → IsNoLine bytes cause → IsBadHead bytes 1 cause
+  no_header : (line later : List ℕ) → length bytes ≤ 8388608 → bytes ≡ line ++ 10 ∷ later → is_printable line ≡ true → ((header : Head) → IsSetUp header.config → line ≢ header_text header) → IsBadHead bytes 1 Header
+
+-- the lines before this one are a header's and events', and here the next event's would begin
+pub record IsBadAt {Value Op : Type 0} (m : Meaning Value Op) (bytes : List ℕ) (line : ℕ) (cause : Cause) : Type 0 where
+  pub header : Head
+  pub events : List (Event Op)
+  pub rest : List ℕ
+  pub text : bytes ≡ script_text m header events ++ rest
+  pub valid : IsSetUp header.config
+  pub fit : All (Fits m header.config) events
+  pub short : length bytes ≤ 8388608
+  pub some : 1 ≤ length rest
+  pub number : line ≡ length events + 2
+  pub bad : IsBadLine m header.config rest cause
 
 -- a fault names this line and a cause that holds; want of memory has no cause
 abbrev pub IsFaultAt : ℕ → (Cause → Type 0) → ScriptFault → Type 0
 IsFaultAt line Holds (Line at cause) = (at ≡ line) × Holds cause
 IsFaultAt line Holds NoMemory = Unit {0}
+
+-- why a header was not read
+abbrev pub IsHeadFault : List ℕ → ScriptFault → Type 0
+IsHeadFault bytes (Line line cause) = IsBadHead bytes line cause
+IsHeadFault bytes NoMemory = Unit {0}
+
+-- why a script was not read
+abbrev pub IsScriptFault : {Value Op : Type 0} → Meaning Value Op → List ℕ → ScriptFault → Type 0
+IsScriptFault m bytes (Line line cause) = IsBadHead bytes line cause ⊎ IsBadAt m bytes line cause
+IsScriptFault m bytes NoMemory = Unit {0}

@@ -1,5 +1,5 @@
 -- The fields of a line: what stands between single spaces.
-use Rattle.std.specs.Prelude.{◌≡◌, ◌≢◌, ℕ, ◌+◌, ◌<◌, ◌^◌, ◌==◌, Option, None, Some, List, ◌∷◌, ◌++◌, codes, count_by}
+use Rattle.std.specs.Prelude.{◌≡◌, ◌≢◌, ℕ, ◌+◌, ◌<◌, ◌^◌, ◌==◌, Option, None, Some, List, [], ◌∷◌, ◌++◌, codes, cond}
 use Rattle.std.specs.Borrow.{Bor}
 use Rattle.std.specs.Fmt.{decimal}
 use Rattle.lr_sim.specs.declared.script.fields.Word.{Word}
@@ -7,7 +7,8 @@ use Rattle.lr_sim.specs.declared.script.fields.Word.TheVariants.{Call, Deliver, 
 
 -- how many spaces there are among the bytes
 abbrev pub spaces : List ℕ → ℕ
-spaces bytes = count_by (λ byte. byte == 32) bytes
+spaces [] = 0
+spaces (byte ∷ bytes) = cond (byte == 32) (1 + spaces bytes) (spaces bytes)
 
 -- a line is its first field, which holds no space, and behind a space the rest
 abbrev pub IsField : List ℕ → List ℕ → Option (Bor (List ℕ)) → Type 0

@@ -20,12 +20,12 @@ events_text m events = flat_map (λ event. line_of (event_text m event)) events
 abbrev pub script_text : {Value Op : Type 0} → Meaning Value Op → Header → List (Event Op) → List ℕ
 script_text m header events = line_of (header_text header) ++ events_text m events
 
--- a header that can be run: one replica, 1 to 64 clients, and a number
-pub record IsHeader (header : Header) : Type 0 where
-  pub replicas : header.config.replicas ≡ 1
-  pub some_client : 1 ≤ header.config.clients
-  pub most_clients : header.config.clients ≤ 64
-  pub number : header.config.delta < 2 ^ 64
+-- a script may ask for this: one replica, 1 to 64 clients, and a number
+pub record IsSetUp (config : Config) : Type 0 where
+  pub replicas : config.replicas ≡ 1
+  pub some_client : 1 ≤ config.clients
+  pub most_clients : config.clients ≤ 64
+  pub number : config.delta < 2 ^ 64
 
 -- an event names a client and a replica that there are, numbers that fit, and an operation of the service
 abbrev pub Fits : {Value Op : Type 0} → Meaning Value Op → Config → Event Op → Type 0
@@ -35,12 +35,12 @@ Fits m config (Show replica) = replica < config.replicas
 
 -- the bytes begin with this header's line
 pub record HasHeader (header : Header) (bytes : List ℕ) : Type 0 where
-  pub valid : IsHeader header
+  pub valid : IsSetUp header.config
   pub rest : List ℕ
   pub text : bytes ≡ line_of (header_text header) ++ rest
 
 -- the bytes are the text of this header and these events
 pub record IsScript {Value Op : Type 0} (m : Meaning Value Op) (header : Header) (events : List (Event Op)) (bytes : List ℕ) : Type 0 where
-  pub valid : IsHeader header
+  pub valid : IsSetUp header.config
   pub fit : All (Fits m header.config) events
   pub text : bytes ≡ script_text m header events

@@ -7,6 +7,7 @@ use Rattle.lr_base.specs.declared.events.Event.TheVariants.{Call, Deliver, Show}
 use Rattle.lr_base.specs.declared.names.Actor.{Actor}
 use Rattle.lr_base.specs.declared.names.Actor.TheVariants.{Client, Replica}
 use Rattle.lr_base.specs.declared.names.Cid.{Cid}
+use Rattle.lr_base.specs.declared.names.Config.{Config}
 use Rattle.lr_base.specs.declared.names.Spot.{Spot}
 use Rattle.lr_sim.specs.declared.script.Header.{Header}
 use Rattle.lr_sim.specs.declared.script.Name.{Name}
@@ -16,9 +17,13 @@ use Rattle.lr_sim.specs.declared.script.Name.TheVariants.{Tally}
 abbrev pub service_text : Name → List ℕ
 service_text Tally = codes "tally"
 
--- a script's first line: the service, the counts of replicas and clients, and how long a message may be under way
+-- the counts of replicas and clients, and how long a message may be under way
+abbrev pub config_text : Config → List ℕ
+config_text config = decimal config.replicas ++ (codes " " ++ (decimal config.clients ++ (codes " " ++ decimal config.delta)))
+
+-- a script's first line: its service and what a run is set up with
 abbrev pub header_text : Header → List ℕ
-header_text header = codes "lazyrep 1 " ++ (service_text header.service ++ (codes " " ++ (decimal header.config.replicas ++ (codes " " ++ (decimal header.config.clients ++ (codes " " ++ decimal header.config.delta))))))
+header_text header = codes "lazyrep 1 " ++ (service_text header.service ++ (codes " " ++ config_text header.config))
 
 -- an event's line: its word, then its fields with one space before each
 abbrev pub event_text : {Value Op : Type 0} → Meaning Value Op → Event Op → List ℕ

@@ -3,7 +3,6 @@ mod event_lines;
 mod fields;
 mod heading;
 mod lines;
-mod numbers;
 mod reading;
 #[cfg(test)]
 mod tests;

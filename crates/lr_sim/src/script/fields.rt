@@ -1,6 +1,7 @@
 //! The fields of a line.
-ghost use Rattle.std.specs.Prelude.{◌≡◌, ◌≢◌, IfSome, IsNone, ℕ, List};
-ghost use Rattle.lr_sim.specs.Fields.{IsField, word_text};
+ghost use Rattle.std.specs.Prelude.{◌≡◌, ◌≢◌, ◌==◌, ◌+◌, ◌↔◌, IsTrue, IfSome, IsNone, MatchOption, position};
+ghost use Rattle.lr_sim.specs.Fields.{IsField, spaces, word_text};
+ghost use Rattle.lr_sim.specs.declared.script.fields.Word.{Word};
 
 // The word that an event's line begins with.
 #[derive(Clone, Copy)]
@@ -10,13 +11,30 @@ pub enum Word {
     Show,
 }
 
+fn first_space(line: &[u8]) -> Option<usize>
+    ensures { result ≡ position (λ byte. byte == 32) line.now }
+{
+    line.iter().position(|byte| *byte == b' ')
+}
+
 // The first field of a line, and what follows the space behind it.
 pub fn split_field(line: &[u8]) -> (&[u8], Option<&[u8]>)
-    ensures { IsField line.now result.0.now result.1 }
+    ensures field { IsField line.now result.0.now result.1 }
+    ensures spaces { MatchOption result.1 (spaces line.now ≡ 0) (λ rest. spaces line.now ≡ 1 + spaces rest.now) }
 {
-    match line.iter().position(|byte| *byte == b' ') {
+    match first_space(line) {
         Some(end) => (&line[..end], Some(&line[end + 1..])),
         None => (line, None),
+    }
+}
+
+// Whether the line is one field.
+pub fn is_one_field(line: &[u8]) -> bool
+    ensures { IsTrue result ↔ (spaces line.now ≡ 0) }
+{
+    match first_space(line) {
+        Some(_) => false,
+        None => true,
     }
 }
 

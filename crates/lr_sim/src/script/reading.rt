@@ -1,4 +1,11 @@
 //! The whole script, read from its bytes.
+ghost use Rattle.std.specs.Prelude.{◌≡◌, ◌+◌, ◌<◌, ◌≤◌, ◌++◌, ◌↔◌, length, IfOk, IfErr};
+ghost use Rattle.std.specs.List.{All};
+ghost use Rattle.lr_sim.specs.declared.script.Header.{Header};
+ghost use Rattle.lr_sim.specs.Faults.{IsFaultAt, IsBadLine, IsHeadFault, IsScriptFault};
+ghost use Rattle.lr_sim.specs.Script.{Fits, IsSetUp, IsScript, HasHeader, line_of, events_text};
+ghost use Rattle.lr_sim.specs.Texts.{event_text, header_text};
+
 use crate::script::event_lines::read_event;
 use crate::script::heading::header_of;
 use crate::script::lines::first_line;
@@ -11,7 +18,11 @@ use std::alloc::Global;
 const MOST_BYTES: usize = 8_388_608;
 
 /// The header that the bytes begin with. Nothing is said of the lines behind it.
-pub fn read_header(bytes: &[u8]) -> Result<Header, ScriptFault> {
+pub fn read_header(bytes: &[u8]) -> Result<Header, ScriptFault>
+    ensures ok { IfOk result (λ header. HasHeader header bytes.now) }
+    ensures long { (result ≡ Err (ScriptFault.Line 0 Cause.TooLong)) ↔ (8388608 < length bytes.now) }
+    ensures err { IfErr result (IsHeadFault bytes.now) }
+{
     let (header, _lines) = split_header(bytes)?;
     Ok(header)
 }
@@ -20,13 +31,23 @@ pub fn read_header(bytes: &[u8]) -> Result<Header, ScriptFault> {
 pub fn read_script<S: Service>(
     alloc: Global,
     bytes: &[u8],
-) -> Result<Rows<Event<S::Op>>, ScriptFault> {
+) -> Result<Rows<Event<S::Op>>, ScriptFault>
+    ensures ok { IfOk result (λ events. (header : Header) × IsScript S.meaning header events bytes.now) }
+    ensures long { (result ≡ Err (ScriptFault.Line 0 Cause.TooLong)) ↔ (8388608 < length bytes.now) }
+    ensures err { IfErr result (IsScriptFault S.meaning bytes.now) }
+{
     let (header, lines) = split_header(bytes)?;
     read_events::<S>(alloc, header.config, lines)
 }
 
 // The header, and the lines behind it.
-fn split_header(bytes: &[u8]) -> Result<(Header, &[u8]), ScriptFault> {
+fn split_header(bytes: &[u8]) -> Result<(Header, &[u8]), ScriptFault>
+    ensures valid { IfOk result (λ parts. IsSetUp parts.0.config) }
+    ensures text { IfOk result (λ parts. bytes.now ≡ line_of (header_text parts.0) ++ parts.1.now) }
+    ensures short { IfOk result (λ parts. length bytes.now ≤ 8388608) }
+    ensures long { (result ≡ Err (ScriptFault.Line 0 Cause.TooLong)) ↔ (8388608 < length bytes.now) }
+    ensures err { IfErr result (IsHeadFault bytes.now) }
+{
     if MOST_BYTES < bytes.len() {
         return Err(ScriptFault::Line { line: 0, cause: Cause::TooLong });
     }
