@@ -1,9 +1,17 @@
 -- A line has one first field, and a script's bytes have one first line.
-use Rattle.std.proofs.Common.{◌≡◌, ◌≢◌, ℕ, suc, ◌+◌, ◌<◌, ◌^◌, Bool, true, false, not, cond, ◌&&◌, eqb, List, [], ◌∷◌, ◌++◌, Option, Some, None, refl, sym, ◌∙◌, ap, arith}
+use Rattle.std.proofs.Common.{◌≡◌, ◌≢◌, ℕ, suc, ◌+◌, ◌*◌, ◌/◌, ◌%◌, ◌<◌, ◌≤◌, ◌^◌, Bool, true, false, not, cond, ◌&&◌, eqb, List, [], ◌∷◌, ◌++◌, Option, Some, None, refl, sym, ◌∙◌, ap, arith}
 use Rattle.std.specs.Borrow.{Bor}
 use Rattle.std.specs.List.{list_all}
 use Rattle.std.proofs.lemmas.List.Folds.{list_all-append}
-use Rattle.lr_sim.specs.Fields.{spaces, IsField, word_text}
+use Rattle.std.specs.Fmt.{decimal}
+use Rattle.std.proofs.lemmas.Bool.Decides.{nat_tests}
+use Rattle.std.proofs.lemmas.Fmt.{decimal_by_steps}
+use Rattle.lr_base.specs.declared.names.Config.{Config}
+use Rattle.lr_sim.specs.Fields.{spaces, IsField, IsConfigFields, word_text}
+use Rattle.lr_sim.specs.Script.{IsSetUp}
+use Rattle.lr_sim.specs.Texts.{config_text, service_text}
+use Rattle.lr_sim.specs.declared.script.Name.{Name}
+use Rattle.lr_sim.specs.declared.script.Name.TheVariants.{Tally}
 use Rattle.lr_sim.specs.declared.script.fields.Word.{Word}
 use Rattle.lr_sim.specs.declared.script.fields.Word.TheVariants.{Call, Deliver, Show}
 use Rattle.lr_sim.proofs.Splits.{spaces-append, spaces_behind}
@@ -76,3 +84,41 @@ no_word_before line field None is word other later e =
     let none : spaces line ≡ 0 = ap spaces is.0 ∙ is.1 in
     omega arith
 no_word_before line field (Some rest) is word other later e = other (field_one field (word_text word) rest.now later (sym is.0 ∙ e) is.1 (word_spaceless word)).0
+
+-- a line that is known to begin with a field and a space is cut there
+pub head_field : (line field : List ℕ) (rest : Option (Bor (List ℕ))) (f r : List ℕ) → IsField line field rest → line ≡ f ++ 32 ∷ r → spaces f ≡ 0 → field ≡ f
+head_field line field None f r is e h =
+    let more : spaces line ≡ 1 + spaces r = spaces_behind line f r e h in
+    let none : spaces line ≡ 0 = ap spaces is.0 ∙ is.1 in
+    absurd (omega arith)
+head_field line field (Some rest) f r is e h = (field_one field f rest.now r (sym is.0 ∙ e) is.1 h).0
+
+pub service_spaceless : (service : Name) → spaces (service_text service) ≡ 0
+service_spaceless Tally = refl
+
+digit_spaceless : (x : ℕ) → 48 ≤ x → eqb x 32 ≡ false
+digit_spaceless x h = grind (arith, nat_tests)
+
+digits_spaceless : (n : ℕ) → n < 10 → spaces ((48 + n) ∷ []) ≡ 0
+digits_spaceless n h = rw (digit_spaceless (48 + n) (omega arith)) refl
+
+-- a number's text holds no space
+pub number_spaceless : (n : ℕ) → n < 2 ^ 64 → spaces (decimal n) ≡ 0
+number_spaceless n h = decimal_by_steps (λ m text. spaces text ≡ 0) digits_spaceless
+    (λ m ds long more. let last : m % 10 < 10 = omega arith in spaces-append ds ((48 + m % 10) ∷ []) ∙ ap (λ k. k + spaces ((48 + m % 10) ∷ [])) more ∙ rw (digits_spaceless (m % 10) last) refl) n h
+
+-- the fields that a run's set-up is written as
+pub config_one : (fields r c d : List ℕ) (config : Config) → IsConfigFields fields r c d → IsSetUp config → fields ≡ config_text config → (r ≡ decimal config.replicas) × (c ≡ decimal config.clients) × (d ≡ decimal config.delta)
+config_one fields r c d config cut set e =
+    let replicas : spaces (decimal config.replicas) ≡ 0 = number_spaceless config.replicas (omega arith) in
+    let clients : spaces (decimal config.clients) ≡ 0 = number_spaceless config.clients (omega arith) in
+    let first = field_one r (decimal config.replicas) (c ++ 32 ∷ d) (decimal config.clients ++ 32 ∷ decimal config.delta) (sym cut.text ∙ e) cut.replicas_field replicas in
+    let second = field_one c (decimal config.clients) d (decimal config.delta) first.1 cut.clients_field clients in
+    (first.0, second.0, second.1)
+
+pub config_spaces : (fields : List ℕ) (config : Config) → IsSetUp config → fields ≡ config_text config → 2 ≤ spaces fields
+config_spaces fields config set e =
+    let first = spaces_behind fields (decimal config.replicas) (decimal config.clients ++ 32 ∷ decimal config.delta) e (number_spaceless config.replicas (omega arith)) in
+    let second = spaces_behind (decimal config.clients ++ 32 ∷ decimal config.delta) (decimal config.clients) (decimal config.delta) refl (number_spaceless config.clients (omega arith)) in
+    omega arith
+

@@ -13,7 +13,7 @@ use Rattle.lr_sim.specs.declared.script.fields.Word.TheVariants.{Call, Deliver, 
 use Rattle.lr_sim.specs.declared.script.Header.{Header as Head}
 use Rattle.lr_base.specs.declared.events.Event.{Event}
 use Rattle.lr_sim.specs.Texts.{header_text}
-use Rattle.lr_sim.specs.Script.{script_text, IsSetUp, Fits}
+use Rattle.lr_sim.specs.Script.{line_of, events_text, IsSetUp, Fits}
 use Rattle.lr_sim.specs.Fields.{spaces, word_text, four_fields, IsCallFields, IsNoNumber}
 
 -- there is a line feed among the bytes
@@ -115,18 +115,24 @@ pub data IsBadHead (bytes : List ℕ) : ℕ → Cause → Type 0 where
   no_line : (cause : Cause) → length bytes ≤ 8388608 → 1 ≤ length bytes → IsNoLine bytes cause → IsBadHead bytes 1 cause
   no_header : (line later : List ℕ) → length bytes ≤ 8388608 → bytes ≡ line ++ 10 ∷ later → is_printable line ≡ true → ((header : Head) → IsSetUp header.config → line ≢ header_text header) → IsBadHead bytes 1 Header
 
--- the lines before this one are a header's and events', and here the next event's would begin
-pub record IsBadAt {Value Op : Type 0} (m : Meaning Value Op) (bytes : List ℕ) (line : ℕ) (cause : Cause) : Type 0 where
-  pub header : Head
+-- the lines before this one are events', and here the next event's would begin
+pub record IsBadAmong {Value Op : Type 0} (m : Meaning Value Op) (config : Config) (lines : List ℕ) (line : ℕ) (cause : Cause) : Type 0 where
   pub events : List (Event Op)
   pub rest : List ℕ
-  pub text : bytes ≡ script_text m header events ++ rest
-  pub valid : IsSetUp header.config
-  pub fit : All (Fits m header.config) events
-  pub short : length bytes ≤ 8388608
+  pub text : lines ≡ events_text m events ++ rest
+  pub fit : All (Fits m config) events
   pub some : 1 ≤ length rest
   pub number : line ≡ length events + 2
-  pub bad : IsBadLine m header.config rest cause
+  pub bad : IsBadLine m config rest cause
+
+-- the first line is a header's, and a later one is bad
+pub record IsBadAt {Value Op : Type 0} (m : Meaning Value Op) (bytes : List ℕ) (line : ℕ) (cause : Cause) : Type 0 where
+  pub header : Head
+  pub lines : List ℕ
+  pub text : bytes ≡ line_of (header_text header) ++ lines
+  pub valid : IsSetUp header.config
+  pub short : length bytes ≤ 8388608
+  pub bad : IsBadAmong m header.config lines line cause
 
 -- a fault names this line and a cause that holds; want of memory has no cause
 abbrev pub IsFaultAt : ℕ → (Cause → Type 0) → ScriptFault → Type 0
@@ -137,6 +143,11 @@ IsFaultAt line Holds NoMemory = Unit {0}
 abbrev pub IsHeadFault : List ℕ → ScriptFault → Type 0
 IsHeadFault bytes (Line line cause) = IsBadHead bytes line cause
 IsHeadFault bytes NoMemory = Unit {0}
+
+-- why the lines behind a header were not read
+abbrev pub IsLineFault : {Value Op : Type 0} → Meaning Value Op → Config → List ℕ → ScriptFault → Type 0
+IsLineFault m config lines (Line line cause) = IsBadAmong m config lines line cause
+IsLineFault m config lines NoMemory = Unit {0}
 
 -- why a script was not read
 abbrev pub IsScriptFault : {Value Op : Type 0} → Meaning Value Op → List ℕ → ScriptFault → Type 0

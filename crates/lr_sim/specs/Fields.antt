@@ -32,6 +32,12 @@ pub record IsCallFields (fields client replica reading op : List ℕ) : Type 0 w
   pub replica_field : spaces replica ≡ 0
   pub reading_field : spaces reading ≡ 0
 
+-- three fields, of which the last may hold spaces: the counts of replicas and clients, and the delta
+pub record IsConfigFields (fields replicas clients delta : List ℕ) : Type 0 where
+  pub text : fields ≡ replicas ++ 32 ∷ (clients ++ 32 ∷ delta)
+  pub replicas_field : spaces replicas ≡ 0
+  pub clients_field : spaces clients ≡ 0
+
 -- no number below 2^64 is written so
 abbrev pub IsNoNumber : List ℕ → Type 0
 IsNoNumber text = (number : ℕ) → number < 2 ^ 64 → text ≢ decimal number

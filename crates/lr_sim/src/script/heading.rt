@@ -1,8 +1,9 @@
 //! The first line of a script.
-ghost use Rattle.std.specs.Prelude.{◌≡◌, ◌≢◌, IfSome, IsNone};
+ghost use Rattle.std.specs.Prelude.{◌≡◌, ◌≢◌, ◌<◌, IfSome, IsNone};
 ghost use Rattle.lr_base.specs.declared.names.Config.{Config};
 ghost use Rattle.lr_sim.specs.declared.script.Header.{Header};
 ghost use Rattle.lr_sim.specs.declared.script.Name.{Name};
+ghost use Rattle.lr_sim.specs.Fields.{spaces, IsConfigFields};
 ghost use Rattle.lr_sim.specs.Script.{IsSetUp};
 ghost use Rattle.lr_sim.specs.Texts.{header_text, service_text, config_text};
 
@@ -22,11 +23,9 @@ pub fn header_of(line: &[u8]) -> Option<Header>
     ensures none { IsNone result → (header : Header) → IsSetUp header.config → line.now ≢ header_text header }
 {
     let fields = line.strip_prefix(b"lazyrep 1 ")?;
-    let (service, Some(fields)) = split_field(fields) else {
-        return None;
-    };
+    let (service, fields) = split_field(fields);
     let service = service_of(service)?;
-    let config = config_of(fields)?;
+    let config = config_of(fields?)?;
     Some(Header { service, config })
 }
 
@@ -40,20 +39,33 @@ fn service_of(field: &[u8]) -> Option<Name>
     None
 }
 
+// The fields of a header's line behind its service.
+#[derive(Drop)]
+struct ConfigFields<'a> {
+    replicas: &'a [u8],
+    clients: &'a [u8],
+    delta: &'a [u8],
+}
+
+fn config_fields(fields: &[u8]) -> Option<ConfigFields<'_>>
+    ensures some { IfSome result (λ it. IsConfigFields fields.now it.replicas.now it.clients.now it.delta.now) }
+    ensures none { IsNone result → spaces fields.now < 2 }
+{
+    let (replicas, fields) = split_field(fields);
+    let (clients, delta) = split_field(fields?);
+    let delta = delta?;
+    Some(ConfigFields { replicas, clients, delta })
+}
+
 fn config_of(fields: &[u8]) -> Option<Config>
     ensures valid { IfSome result IsSetUp }
     ensures text { IfSome result (λ config. fields.now ≡ config_text config) }
     ensures none { IsNone result → (config : Config) → IsSetUp config → fields.now ≢ config_text config }
 {
-    let (replicas, Some(fields)) = split_field(fields) else {
-        return None;
-    };
-    let (clients, Some(delta)) = split_field(fields) else {
-        return None;
-    };
-    let replicas = read_number(replicas)?;
-    let clients = read_number(clients)?;
-    let delta = read_number(delta)?;
+    let texts = config_fields(fields)?;
+    let replicas = read_number(texts.replicas)?;
+    let clients = read_number(texts.clients)?;
+    let delta = read_number(texts.delta)?;
     if replicas != REPLICAS {
         return None;
     }

@@ -2,7 +2,7 @@
 ghost use Rattle.std.specs.Prelude.{◌≡◌, ◌+◌, ◌<◌, ◌≤◌, ◌++◌, ◌↔◌, length, IfOk, IfErr};
 ghost use Rattle.std.specs.List.{All};
 ghost use Rattle.lr_sim.specs.declared.script.Header.{Header};
-ghost use Rattle.lr_sim.specs.Faults.{IsFaultAt, IsBadLine, IsHeadFault, IsScriptFault};
+ghost use Rattle.lr_sim.specs.Faults.{IsFaultAt, IsBadLine, IsHeadFault, IsLineFault, IsScriptFault};
 ghost use Rattle.lr_sim.specs.Script.{Fits, IsSetUp, IsScript, HasHeader, line_of, events_text};
 ghost use Rattle.lr_sim.specs.Texts.{event_text, header_text};
 
@@ -69,6 +69,10 @@ fn read_events<S: Service>(
     config: Config,
     lines: &[u8],
 ) -> Result<Rows<Event<S::Op>>, ScriptFault>
+    requires { length lines.now ≤ 8388608 }
+    ensures fit { IfOk result (All (Fits S.meaning config)) }
+    ensures text { IfOk result (λ events. lines.now ≡ events_text S.meaning events) }
+    ensures err { IfErr result (IsLineFault S.meaning config lines.now) }
 {
     let mut events = Rows::new(alloc);
     let mut rest = lines;
@@ -76,9 +80,9 @@ fn read_events<S: Service>(
     while !rest.is_empty() {
         line += 1;
         let (event, later) = next_event::<S>(alloc, config, line, rest)?;
-        if events.push(event).is_err() {
+        let Ok(()) = events.push(event) else {
             return Err(ScriptFault::NoMemory);
-        }
+        };
         rest = later;
     }
     Ok(events)
@@ -90,12 +94,16 @@ fn next_event<S: Service>(
     config: Config,
     line: u64,
     lines: &[u8],
-) -> Result<(Event<S::Op>, &[u8]), ScriptFault> {
+) -> Result<(Event<S::Op>, &[u8]), ScriptFault>
+    ensures fits { IfOk result (λ next. Fits S.meaning config next.0) }
+    ensures text { IfOk result (λ next. lines.now ≡ line_of (event_text S.meaning next.0) ++ next.1.now) }
+    ensures err { IfErr result (IsFaultAt line (IsBadLine S.meaning config lines.now)) }
+{
     match first_line(lines) {
-        Ok((text, later)) => {
-            let event = read_event::<S>(alloc, config, line, text)?;
-            Ok((event, later))
-        }
+        Ok((text, later)) => match read_event::<S>(alloc, config, line, text) {
+            Ok(event) => Ok((event, later)),
+            Err(fault) => Err(fault),
+        },
         Err(cause) => Err(ScriptFault::Line { line, cause }),
     }
 }
