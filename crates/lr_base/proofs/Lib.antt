@@ -1,2 +1,3 @@
-mod Order
 mod NumberLemmas
+mod Order
+mod TallyLemmas

@@ -8,6 +8,8 @@ mod names;
 mod numbers;
 mod rows;
 mod stamp;
+pub mod svc_tally;
+mod word;
 
 pub use events::{Event, Outcome, Refusal, Sent, StateLine, Step};
 pub use messages::{Call, LogAck, LogUpdate, Message};
@@ -15,3 +17,4 @@ pub use names::{Actor, Cid, Config, Spot};
 pub use numbers::read_number;
 pub use rows::{NoMemory, Rows, Text};
 pub use stamp::Stamp;
+pub use word::Word;

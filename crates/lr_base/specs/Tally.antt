@@ -1,0 +1,56 @@
+-- The tally: counters by name, to which operations add modulo 2^64.
+use Rattle.std.specs.Prelude.{ℕ, ◌+◌, ◌%◌, ◌^◌, Bool, ◌&&◌, nat_lt, List, [], ◌++◌, unwrap_or, codes}
+use Rattle.std.specs.Ordering.{nat_cmp}
+use Rattle.std.specs.Cmp.Lexicographic.{slice_cmp}
+use Rattle.std.specs.Fmt.{decimal}
+use Rattle.std.specs.FinMap as map
+use Rattle.lr_base.specs.declared.lr_service.Kind.{Kind}
+use Rattle.lr_base.specs.declared.lr_service.Kind.TheVariants.{Query, Causal}
+use Rattle.lr_base.specs.declared.svc_tally.op.TallyOp.{TallyOp}
+use Rattle.lr_base.specs.declared.svc_tally.op.TallyOp.TheVariants.{Add, Read}
+use Rattle.lr_base.specs.Word.{is_word}
+use Rattle.lr_base.specs.Meaning.{Meaning}
+
+-- a counter for each name that was added to
+abbrev pub Counts : Type 0
+Counts = map.FinMap (slice_cmp nat_cmp) ℕ
+
+-- the counter of this name, or 0 where there is none
+abbrev pub count_of : Counts → List ℕ → ℕ
+count_of counts name = unwrap_or (map.get counts name) 0
+
+-- adding is causal, reading is a query
+abbrev pub tally_kind : TallyOp → Kind
+tally_kind (Add name amount) = Causal
+tally_kind (Read name) = Query
+
+-- adding raises the counter of the name, modulo 2^64
+abbrev pub tally_apply : Counts → TallyOp → Counts
+tally_apply counts (Add name amount) = map.insert counts name ((count_of counts name + amount) % 2 ^ 64)
+tally_apply counts (Read name) = counts
+
+-- reading answers the counter in decimal
+abbrev pub tally_read : Counts → TallyOp → List ℕ
+tally_read counts (Add name amount) = []
+tally_read counts (Read name) = decimal (count_of counts name)
+
+-- the name is a word, and the amount is below 2^64
+abbrev pub tally_is_op : TallyOp → Bool
+tally_is_op (Add name amount) = is_word name && nat_lt amount (2 ^ 64)
+tally_is_op (Read name) = is_word name
+
+-- the operation as it is written
+abbrev pub tally_text : TallyOp → List ℕ
+tally_text (Add name amount) = codes "add " ++ (name ++ (codes " " ++ decimal amount))
+tally_text (Read name) = codes "read " ++ name
+
+-- what the tally's operations mean
+abbrev pub tally : Meaning Counts TallyOp
+tally = record {
+  start = map.empty;
+  kind = tally_kind;
+  apply = tally_apply;
+  read = tally_read;
+  is_op = tally_is_op;
+  text = tally_text;
+}

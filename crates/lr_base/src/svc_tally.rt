@@ -1,0 +1,10 @@
+//! The tally: a service of counters by name, to which operations add modulo 2^64.
+mod counts;
+mod op;
+mod texts;
+
+pub use counts::Tally;
+pub use op::TallyOp;
+
+#[cfg(test)]
+mod tests;
