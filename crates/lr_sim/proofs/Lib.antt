@@ -1,0 +1,4 @@
+pub mod Splits
+pub mod Cuts
+pub mod Printables
+pub mod EventFaults

@@ -1,0 +1,49 @@
+-- The one text of each thing that scripts and histories speak of.
+use Rattle.std.specs.Prelude.{ℕ, List, ◌++◌, ◌==◌, cond, codes}
+use Rattle.std.specs.Fmt.{decimal}
+use Rattle.lr_base.specs.Meaning.{Meaning}
+use Rattle.lr_base.specs.declared.events.Event.{Event}
+use Rattle.lr_base.specs.declared.events.Event.TheVariants.{Call, Deliver, Show}
+use Rattle.lr_base.specs.declared.names.Actor.{Actor}
+use Rattle.lr_base.specs.declared.names.Actor.TheVariants.{Client, Replica}
+use Rattle.lr_base.specs.declared.names.Cid.{Cid}
+use Rattle.lr_base.specs.declared.names.Config.{Config}
+use Rattle.lr_base.specs.declared.names.Spot.{Spot}
+use Rattle.lr_sim.specs.declared.script.Header.{Header}
+use Rattle.lr_sim.specs.declared.script.Name.{Name}
+use Rattle.lr_sim.specs.declared.script.Name.TheVariants.{Tally}
+
+-- a service's name
+abbrev pub service_text : Name → List ℕ
+service_text Tally = codes "tally"
+
+-- the counts of replicas and clients, and how long a message may be under way
+abbrev pub config_text : Config → List ℕ
+config_text config = decimal config.replicas ++ (codes " " ++ (decimal config.clients ++ (codes " " ++ decimal config.delta)))
+
+-- a script's first line: its service and what a run is set up with
+abbrev pub header_text : Header → List ℕ
+header_text header = codes "lazyrep 1 " ++ (service_text header.service ++ (codes " " ++ config_text header.config))
+
+-- an event's line: its word, then its fields with one space before each
+abbrev pub event_text : {Value Op : Type 0} → Meaning Value Op → Event Op → List ℕ
+event_text m (Call client replica reading op) = codes "call " ++ (decimal client ++ (codes " " ++ (decimal replica ++ (codes " " ++ (decimal reading ++ (codes " " ++ m.text op))))))
+event_text m (Deliver message) = codes "deliver " ++ decimal message
+event_text m (Show replica) = codes "show " ++ decimal replica
+
+-- a call: its client and that client's count of calls
+abbrev pub cid_text : Cid → List ℕ
+cid_text cid = decimal cid.client ++ (codes "." ++ decimal cid.seq)
+
+-- a place: a replica's number, or an o for the order, which is the place behind the replicas'
+abbrev pub place_text : ℕ → ℕ → List ℕ
+place_text replicas place = cond (place == replicas) (codes "o") (decimal place)
+
+-- where an update was accepted: the place and its count, in a run with so many replicas
+abbrev pub spot_text : ℕ → Spot → List ℕ
+spot_text replicas spot = place_text replicas spot.place ++ (codes ":" ++ decimal spot.number)
+
+-- a client or a replica
+abbrev pub actor_text : Actor → List ℕ
+actor_text (Client number) = codes "c" ++ decimal number
+actor_text (Replica number) = codes "r" ++ decimal number

@@ -1,0 +1,6 @@
+//! The run of one script: its bytes are read as events, and what they do is printed.
+#![tactic(auto)]
+
+mod script;
+
+pub use script::{Cause, Header, Name, ScriptFault, print_event, read_header, read_script};

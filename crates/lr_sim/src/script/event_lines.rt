@@ -1,0 +1,171 @@
+//! The lines of events, read and printed.
+ghost use Rattle.std.specs.Prelude.{◌≡◌, ◌++◌, ◌<◌, codes, IfOk, IfErr, OnOk, IfSome, IsNone, string_bytes};
+ghost use Rattle.std.specs.Fmt.{decimal};
+ghost use Rattle.lr_sim.specs.Fields.{spaces, IsCallFields};
+ghost use Rattle.lr_sim.specs.Faults.{IsFaultAt, IsBadEvent, IsBadCall, IsBadDeliver, IsBadShow};
+ghost use Rattle.lr_sim.specs.Script.{Fits};
+ghost use Rattle.lr_sim.specs.Texts.{event_text};
+
+use crate::script::fields::{Word, is_one_field, split_field, word_of};
+
+use crate::script::{Cause, ScriptFault};
+use lr_base::lr_service::{OpFault, Service};
+use lr_base::{Config, Event, NoMemory, Text, read_number};
+use std::alloc::{AllocError, Global};
+
+// The fields of a call's line behind its word.
+struct CallFields<'a> {
+    client: &'a [u8],
+    replica: &'a [u8],
+    reading: &'a [u8],
+    op: &'a [u8],
+}
+
+// The event that a line is.
+pub fn read_event<S: Service>(
+    alloc: Global,
+    config: Config,
+    line: u64,
+    text: &[u8],
+) -> Result<Event<S::Op>, ScriptFault>
+    ensures fits { IfOk result (Fits S.meaning config) }
+    ensures text { IfOk result (λ event. text.now ≡ event_text S.meaning event) }
+    ensures err { IfErr result (IsFaultAt line (IsBadEvent S.meaning config text.now)) }
+{
+    let (word, fields) = split_field(text);
+    let Some(word) = word_of(word) else {
+        return Err(ScriptFault::Line { line, cause: Cause::Event });
+    };
+    let Some(fields) = fields else {
+        return Err(ScriptFault::Line { line, cause: Cause::Fields });
+    };
+    match word {
+        Word::Call => read_call::<S>(alloc, config, line, fields),
+        Word::Deliver => read_deliver::<S>(config, line, fields),
+        Word::Show => read_show::<S>(config, line, fields),
+    }
+}
+
+fn call_fields(fields: &[u8]) -> Option<CallFields<'_>>
+    ensures some { IfSome result (λ it. IsCallFields fields.now it.client.now it.replica.now it.reading.now it.op.now) }
+    ensures none { IsNone result → spaces fields.now < 3 }
+{
+    let (client, fields) = split_field(fields);
+    let (replica, fields) = split_field(fields?);
+    let (reading, op) = split_field(fields?);
+    let op = op?;
+    Some(CallFields { client, replica, reading, op })
+}
+
+fn read_call<S: Service>(
+    alloc: Global,
+    config: Config,
+    line: u64,
+    fields: &[u8],
+) -> Result<Event<S::Op>, ScriptFault>
+    ensures fits { IfOk result (Fits S.meaning config) }
+    ensures text { IfOk result (λ event. codes "call " ++ fields.now ≡ event_text S.meaning event) }
+    ensures err { IfErr result (IsFaultAt line (IsBadCall S.meaning config fields.now)) }
+{
+    let Some(fields) = call_fields(fields) else {
+        return Err(ScriptFault::Line { line, cause: Cause::Fields });
+    };
+    let CallFields { client, replica, reading, op } = fields;
+    let Some(client) = read_number(client) else {
+        return Err(ScriptFault::Line { line, cause: Cause::Number });
+    };
+    let Some(replica) = read_number(replica) else {
+        return Err(ScriptFault::Line { line, cause: Cause::Number });
+    };
+    let Some(reading) = read_number(reading) else {
+        return Err(ScriptFault::Line { line, cause: Cause::Number });
+    };
+    if config.clients as u64 <= client {
+        return Err(ScriptFault::Line { line, cause: Cause::Range });
+    }
+    if config.replicas as u64 <= replica {
+        return Err(ScriptFault::Line { line, cause: Cause::Range });
+    }
+    match S::read_op(alloc, op) {
+        Ok(op) => Ok(Event::Call {
+            client: client as u32,
+            replica: replica as u8,
+            reading,
+            op,
+        }),
+        Err(OpFault::NotAnOp) => Err(ScriptFault::Line { line, cause: Cause::Op }),
+        Err(OpFault::NoMemory) => Err(ScriptFault::NoMemory),
+    }
+}
+
+fn read_deliver<S: Service>(
+    config: Config,
+    line: u64,
+    fields: &[u8],
+) -> Result<Event<S::Op>, ScriptFault>
+    ensures fits { IfOk result (Fits S.meaning config) }
+    ensures text { IfOk result (λ event. codes "deliver " ++ fields.now ≡ event_text S.meaning event) }
+    ensures err { IfErr result (IsFaultAt line (IsBadDeliver fields.now)) }
+{
+    if !is_one_field(fields) {
+        return Err(ScriptFault::Line { line, cause: Cause::Fields });
+    }
+    let Some(message) = read_number(fields) else {
+        return Err(ScriptFault::Line { line, cause: Cause::Number });
+    };
+    Ok(Event::Deliver { message })
+}
+
+fn read_show<S: Service>(
+    config: Config,
+    line: u64,
+    fields: &[u8],
+) -> Result<Event<S::Op>, ScriptFault>
+    ensures fits { IfOk result (Fits S.meaning config) }
+    ensures text { IfOk result (λ event. codes "show " ++ fields.now ≡ event_text S.meaning event) }
+    ensures err { IfErr result (IsFaultAt line (IsBadShow config fields.now)) }
+{
+    if !is_one_field(fields) {
+        return Err(ScriptFault::Line { line, cause: Cause::Fields });
+    }
+    let Some(replica) = read_number(fields) else {
+        return Err(ScriptFault::Line { line, cause: Cause::Number });
+    };
+    if config.replicas as u64 <= replica {
+        return Err(ScriptFault::Line { line, cause: Cause::Range });
+    }
+    Ok(Event::Show { replica: replica as u8 })
+}
+
+/// Adds the event's line behind `out`, without its LF.
+pub fn print_event<S: Service>(event: &Event<S::Op>, out: &mut Text) -> Result<(), NoMemory>
+    ensures { OnOk result (out.new ≡ out.old ++ event_text S.meaning event.now) }
+{
+    match event {
+        Event::Call { client, replica, reading, op } => {
+            let client = *client;
+            let replica = *replica;
+            let reading = *reading;
+            let head = call_head(out.allocator(), client, replica, reading)?;
+            out.extend(head.as_bytes())?;
+            S::print_op(op, out)
+        }
+        Event::Deliver { message } => {
+            let message = *message;
+            let line = format!(in out.allocator(); "deliver {message}")?;
+            out.extend(line.as_bytes())
+        }
+        Event::Show { replica } => {
+            let replica = *replica;
+            let line = format!(in out.allocator(); "show {replica}")?;
+            out.extend(line.as_bytes())
+        }
+    }
+}
+
+// A call's line up to its operation.
+fn call_head(alloc: Global, client: u32, replica: u8, reading: u64) -> Result<String, AllocError>
+    ensures { IfOk result (λ text. string_bytes text ≡ codes "call " ++ (decimal client ++ (codes " " ++ (decimal replica ++ (codes " " ++ (decimal reading ++ codes " ")))))) }
+{
+    format!(in alloc; "call {client} {replica} {reading} ")
+}

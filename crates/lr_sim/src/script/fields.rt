@@ -1,0 +1,56 @@
+//! The fields of a line.
+ghost use Rattle.std.specs.Prelude.{◌≡◌, ◌≢◌, ◌==◌, ◌+◌, ◌↔◌, IsTrue, IfSome, IsNone, MatchOption, position};
+ghost use Rattle.lr_sim.specs.Fields.{IsField, spaces, word_text};
+ghost use Rattle.lr_sim.specs.declared.script.fields.Word.{Word};
+
+// The word that an event's line begins with.
+#[derive(Clone, Copy)]
+pub enum Word {
+    Call,
+    Deliver,
+    Show,
+}
+
+fn first_space(line: &[u8]) -> Option<usize>
+    ensures { result ≡ position (λ byte. byte == 32) line.now }
+{
+    line.iter().position(|byte| *byte == b' ')
+}
+
+// The first field of a line, and what follows the space behind it.
+pub fn split_field(line: &[u8]) -> (&[u8], Option<&[u8]>)
+    ensures field { IsField line.now result.0.now result.1 }
+    ensures spaces { MatchOption result.1 (spaces line.now ≡ 0) (λ rest. spaces line.now ≡ 1 + spaces rest.now) }
+{
+    match first_space(line) {
+        Some(end) => (&line[..end], Some(&line[end + 1..])),
+        None => (line, None),
+    }
+}
+
+// Whether the line is one field.
+pub fn is_one_field(line: &[u8]) -> bool
+    ensures { IsTrue result ↔ (spaces line.now ≡ 0) }
+{
+    match first_space(line) {
+        Some(_) => false,
+        None => true,
+    }
+}
+
+// The event's word that a field is.
+pub fn word_of(field: &[u8]) -> Option<Word>
+    ensures some { IfSome result (λ word. field.now ≡ word_text word) }
+    ensures none { IsNone result → (word : Word) → field.now ≢ word_text word }
+{
+    if field == b"call".as_slice() {
+        return Some(Word::Call);
+    }
+    if field == b"deliver".as_slice() {
+        return Some(Word::Deliver);
+    }
+    if field == b"show".as_slice() {
+        return Some(Word::Show);
+    }
+    None
+}

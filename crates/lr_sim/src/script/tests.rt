@@ -1,0 +1,197 @@
+//! Scripts that are read and printed again, and bytes that are none.
+use crate::{Cause, ScriptFault, print_event, read_header, read_script};
+use lr_base::svc_tally::{Tally, TallyOp};
+use lr_base::{Event, NoMemory, Rows, Text};
+use std::alloc::Global;
+use std::process::Abort;
+use std::test::Fail;
+
+const HEADER: &str = "lazyrep 1 tally 1 1 10\n";
+
+// (bytes, line, cause)
+const BAD_HEADERS: [(&str, u64, Cause); 31] = [
+    ("", 1, Cause::Header),
+    ("lazyrep 1 tally 1 1 10", 1, Cause::Unended),
+    ("lazyrep 1 mail 1 1 10", 1, Cause::Unended),
+    ("lazyrep 1 tally 1 1 10\t", 1, Cause::Unended),
+    ("\n", 1, Cause::Header),
+    ("lazyrep 1 tally 1 1\t10\n", 1, Cause::Byte),
+    ("lazyrep 1 tally 1 1 10\r\n", 1, Cause::Byte),
+    ("lazyrep 1 tally 1 1 10\x7f\n", 1, Cause::Byte),
+    ("lazyrep 1 mail\x00 1 1 10\n", 1, Cause::Byte),
+    ("lazyrep 1 tally 2 1 10\n", 1, Cause::Header),
+    ("lazyrep 1 tally 0 1 10\n", 1, Cause::Header),
+    ("lazyrep 1 mail 1 1 10\n", 1, Cause::Header),
+    ("lazyrep 1 claims 1 1 10\n", 1, Cause::Header),
+    ("lazyrep 1 Tally 1 1 10\n", 1, Cause::Header),
+    ("Lazyrep 1 tally 1 1 10\n", 1, Cause::Header),
+    ("lazyrep 2 tally 1 1 10\n", 1, Cause::Header),
+    ("lazyrep 01 tally 1 1 10\n", 1, Cause::Header),
+    ("lazyrep 1 tally 1 65 10\n", 1, Cause::Header),
+    ("lazyrep 1 tally 1 0 10\n", 1, Cause::Header),
+    ("lazyrep 1 tally 1 01 10\n", 1, Cause::Header),
+    ("lazyrep 1 tally 01 1 10\n", 1, Cause::Header),
+    ("lazyrep 1 tally 1 1 010\n", 1, Cause::Header),
+    ("lazyrep 1 tally 1 1 +10\n", 1, Cause::Header),
+    ("lazyrep 1 tally 1 1 18446744073709551616\n", 1, Cause::Header),
+    ("lazyrep 1 tally 1 1 10 \n", 1, Cause::Header),
+    (" lazyrep 1 tally 1 1 10\n", 1, Cause::Header),
+    ("lazyrep  1 tally 1 1 10\n", 1, Cause::Header),
+    ("lazyrep 1 tally 1 1  10\n", 1, Cause::Header),
+    ("lazyrep 1 tally 1 1\n", 1, Cause::Header),
+    ("lazyrep 1 tally 1 1 \n", 1, Cause::Header),
+    ("show 0\n", 1, Cause::Header),
+];
+
+// (the lines behind a header for one replica and one client, line, cause)
+const BAD_LINES: [(&str, u64, Cause); 45] = [
+    ("deliver 1", 2, Cause::Unended),
+    ("gossip 0 1", 2, Cause::Unended),
+    ("deliver\t1", 2, Cause::Unended),
+    ("show 0\ndeliver 1", 3, Cause::Unended),
+    ("deliver\t1\n", 2, Cause::Byte),
+    ("deliver 1\r\n", 2, Cause::Byte),
+    ("deliver 1\x7f\n", 2, Cause::Byte),
+    ("gossip 0\x1f1\n", 2, Cause::Byte),
+    ("\n", 2, Cause::Event),
+    (" \n", 2, Cause::Event),
+    (" deliver 1\n", 2, Cause::Event),
+    ("gossip 0 1\n", 2, Cause::Event),
+    ("resend 0 0 5\n", 2, Cause::Event),
+    ("Call 0 0 5 add x 3\n", 2, Cause::Event),
+    ("calls 0 0 5 add x 3\n", 2, Cause::Event),
+    ("cal 0 0 5 add x 3\n", 2, Cause::Event),
+    ("lazyrep 1 tally 1 1 10\n", 2, Cause::Event),
+    ("deliver\n", 2, Cause::Fields),
+    ("deliver 1 \n", 2, Cause::Fields),
+    ("deliver 1 2\n", 2, Cause::Fields),
+    ("deliver x y\n", 2, Cause::Fields),
+    ("show\n", 2, Cause::Fields),
+    ("show 9 9\n", 2, Cause::Fields),
+    ("call\n", 2, Cause::Fields),
+    ("call 0 0 5\n", 2, Cause::Fields),
+    ("call x 9 05\n", 2, Cause::Fields),
+    ("deliver \n", 2, Cause::Number),
+    ("deliver 01\n", 2, Cause::Number),
+    ("deliver -1\n", 2, Cause::Number),
+    ("deliver +1\n", 2, Cause::Number),
+    ("deliver 18446744073709551616\n", 2, Cause::Number),
+    ("show 00\n", 2, Cause::Number),
+    ("show r0\n", 2, Cause::Number),
+    ("call 0 0 01 add x 1\n", 2, Cause::Number),
+    ("call 0  5 add x 1\n", 2, Cause::Number),
+    ("call 1 1 x sub x 1\n", 2, Cause::Number),
+    ("call c0 0 5 add x 1\n", 2, Cause::Number),
+    ("show 1\n", 2, Cause::Range),
+    ("show 256\n", 2, Cause::Range),
+    ("call 1 0 5 add x 3\n", 2, Cause::Range),
+    ("call 0 1 5 sub x 3\n", 2, Cause::Range),
+    ("call 4294967296 0 5 add x 3\n", 2, Cause::Range),
+    ("call 0 0 5 sub x 1\n", 2, Cause::Op),
+    ("call 0 0 5 \n", 2, Cause::Op),
+    ("show 0\ndeliver 0\nshow 0\ncall 0 0 5  add x 1\nshow 1\n", 5, Cause::Op),
+];
+
+// (a header's line, its count of clients, the events' lines)
+const GOOD: [(&str, u32, &str); 5] = [
+    ("lazyrep 1 tally 1 1 0\n", 1, ""),
+    ("lazyrep 1 tally 1 64 18446744073709551615\n", 64, "deliver 0\n"),
+    (
+        "lazyrep 1 tally 1 64 10\n",
+        64,
+        "call 63 0 18446744073709551615 add x 3\n",
+    ),
+    (
+        "lazyrep 1 tally 1 2 10\n",
+        2,
+        "deliver 18446744073709551615\nshow 0\n",
+    ),
+    (
+        "lazyrep 1 tally 1 2 10\n",
+        2,
+        "call 0 0 5 add x 1\ndeliver 1\ncall 1 0 0 read x\ndeliver 1\nshow 0\n",
+    ),
+];
+
+// The events' lines of a script, printed again behind its header's line.
+fn printed(alloc: Global, script: &str) -> Result<Text, ScriptFault> {
+    let events = read_script::<Tally>(alloc, script.as_bytes())?;
+    match event_lines(alloc, events.as_slice()) {
+        Ok(lines) => Ok(lines),
+        Err(NoMemory) => Err(ScriptFault::NoMemory),
+    }
+}
+
+fn event_lines(alloc: Global, events: &[Event<TallyOp>]) -> Result<Text, NoMemory> {
+    let mut lines = Rows::new(alloc);
+    for event in events {
+        print_event::<Tally>(event, &mut lines)?;
+        lines.push(b'\n')?;
+    }
+    Ok(lines)
+}
+
+fn assert_fault(rt: &impl Abort, fault: ScriptFault, line: u64, cause: Cause, text: &str) {
+    match fault {
+        ScriptFault::Line { line: found, cause: why } => {
+            assert_eq!(rt; found, line, "in {text}");
+            assert_eq!(rt; why, cause, "in {text}");
+        }
+        ScriptFault::NoMemory => assert!(rt; false, "no memory: {text}"),
+    }
+}
+
+#[test]
+fn bad_headers_are_refused(rt: HostRuntime) -> Result<(), Fail> {
+    for (text, line, cause) in BAD_HEADERS {
+        match read_header(text.as_bytes()) {
+            Ok(_) => assert!(rt; false, "taken: {text}"),
+            Err(fault) => assert_fault(&rt, fault, line, cause, text),
+        }
+        match printed(rt.alloc(), text) {
+            Ok(_) => assert!(rt; false, "taken: {text}"),
+            Err(fault) => assert_fault(&rt, fault, line, cause, text),
+        }
+    }
+    Ok(())
+}
+
+#[test]
+fn bad_lines_are_refused(rt: HostRuntime) -> Result<(), Fail> {
+    for (lines, line, cause) in BAD_LINES {
+        let script = format!(in rt.alloc(); "{HEADER}{lines}")?;
+        match printed(rt.alloc(), script.as_str()) {
+            Ok(_) => assert!(rt; false, "taken: {lines}"),
+            Err(fault) => assert_fault(&rt, fault, line, cause, lines),
+        }
+    }
+    Ok(())
+}
+
+#[test]
+fn good_scripts_are_printed_again(rt: HostRuntime) -> Result<(), Fail> {
+    for (header, clients, lines) in GOOD {
+        let script = format!(in rt.alloc(); "{header}{lines}")?;
+        let read = read_header(script.as_bytes())?;
+        assert_eq!(rt; read.config.clients, clients, "in {script}");
+        let again = printed(rt.alloc(), script.as_str())?;
+        assert!(rt; again.as_slice() == lines.as_bytes(), "in {script}");
+    }
+    Ok(())
+}
+
+#[test]
+fn the_longest_input_is_read_as_lines(rt: HostRuntime) -> Result<(), Fail> {
+    for (length, line, cause) in [(8_388_608, 1, Cause::Unended), (8_388_609, 0, Cause::TooLong)] {
+        let bytes = vec![in rt.alloc(); b' '; length]?;
+        match read_header(bytes.as_slice()) {
+            Ok(_) => assert!(rt; false, "taken"),
+            Err(fault) => assert_fault(&rt, fault, line, cause, "spaces"),
+        }
+        match read_script::<Tally>(rt.alloc(), bytes.as_slice()) {
+            Ok(_) => assert!(rt; false, "taken"),
+            Err(fault) => assert_fault(&rt, fault, line, cause, "spaces"),
+        }
+    }
+    Ok(())
+}
