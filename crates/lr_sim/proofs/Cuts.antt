@@ -121,4 +121,3 @@ config_spaces fields config set e =
     let first = spaces_behind fields (decimal config.replicas) (decimal config.clients ++ 32 ∷ decimal config.delta) e (number_spaceless config.replicas (omega arith)) in
     let second = spaces_behind (decimal config.clients ++ 32 ∷ decimal config.delta) (decimal config.clients) (decimal config.delta) refl (number_spaceless config.clients (omega arith)) in
     omega arith
-

@@ -1,4 +1,6 @@
-pub mod Texts
-pub mod Fields
-pub mod Script
 pub mod Faults
+pub mod Fields
+pub mod Fronts
+pub mod Script
+pub mod Shapes
+pub mod Texts

@@ -1,0 +1,43 @@
+-- What contracts see of a front end, and what its commands do.
+use Rattle.std.specs.Prelude.{◌==◌, ◌&&◌, ◌+◌, ℕ, Bool, false, max, List, Option, Some, None, if◌then◌else◌}
+use Rattle.lr_base.specs.Rules.{same_cid}
+use Rattle.lr_base.specs.Stamps.{join}
+use Rattle.lr_base.specs.declared.lr_service.Kind.{Kind}
+use Rattle.lr_base.specs.declared.lr_service.Kind.TheVariants.{Query as AQuery, Causal, Forced, Immediate}
+use Rattle.lr_base.specs.declared.names.Cid.{Cid}
+use Rattle.lr_base.specs.declared.messages.Call.{Call}
+use Rattle.lr_base.specs.declared.messages.Message.{Message}
+use Rattle.lr_base.specs.declared.messages.Message.TheVariants.{Update, Query}
+
+-- a client's number, its clock, the label of its calls, how many it made, and the call that is open
+pub record FrontState : Type 0 where
+  pub client : ℕ
+  pub clock : ℕ
+  pub label : List ℕ
+  pub calls : ℕ
+  pub open_call : Option Cid
+
+-- the call that comes next
+abbrev pub next_cid : FrontState → Cid
+next_cid front = record { client = front.client; seq = front.calls + 1 }
+
+-- a front end that has made its next call, at a clock reading
+abbrev pub called : ℕ → FrontState → FrontState
+called reading front = record front { clock = max front.clock reading; calls = front.calls + 1; open_call = Some (next_cid front) }
+
+-- the message of that call: a query goes without a time, an update with that of the clock
+abbrev pub message_of : {Op : Type 0} → Kind → FrontState → ℕ → Op → Message Op
+message_of AQuery front reading op = Query (record { cid = next_cid front; prev = front.label; op = op })
+message_of _ front reading op = Update (record { cid = next_cid front; prev = front.label; op = op }) (max front.clock reading)
+
+-- whether this call is open
+abbrev pub is_open : Option Cid → Cid → Bool
+is_open None cid = false
+is_open (Some open_call) cid = same_cid open_call cid
+
+-- a front end that was given the reply to a call: that to the open call joins its stamp to the label and ends the call
+abbrev pub reply_taken : Cid → List ℕ → FrontState → FrontState
+reply_taken cid stamp front =
+    if is_open front.open_call cid
+    then record front { label = join front.label stamp; open_call = None }
+    else front

@@ -1,0 +1,42 @@
+-- What every message and every act of a run keeps.
+use Rattle.std.specs.Prelude.{◌≡◌, ◌+◌, ◌<◌, ℕ, Bool, true, false, not, List, length, slice_get, nat_lt}
+use Rattle.std.specs.Option.{ForSome}
+use Rattle.lr_base.specs.Kinds.{is_query}
+use Rattle.lr_base.specs.declared.lr_service.Kind.{Kind}
+use Rattle.lr_base.specs.declared.names.Actor.{Actor}
+use Rattle.lr_base.specs.declared.names.Actor.TheVariants.{Client, Replica}
+use Rattle.lr_base.specs.declared.names.Config.{Config}
+use Rattle.lr_base.specs.declared.messages.Message.{Message}
+use Rattle.lr_base.specs.declared.messages.Message.TheVariants.{Update, Query, Done, Answer}
+
+-- the stamp that a message carries
+abbrev pub stamp_in : {Op : Type 0} → Message Op → List ℕ
+stamp_in (Update call time) = call.prev
+stamp_in (Query call) = call.prev
+stamp_in (Done cid spot stamp) = stamp
+stamp_in (Answer cid text stamp) = stamp
+
+-- the client whose call a message is about
+abbrev pub client_in : {Op : Type 0} → Message Op → ℕ
+client_in (Update call time) = call.cid.client
+client_in (Query call) = call.cid.client
+client_in (Done cid spot stamp) = cid.client
+client_in (Answer cid text stamp) = cid.client
+
+-- an update message holds an update, and a query message a query
+abbrev pub has_kind : {Op : Type 0} → (Op → Kind) → Message Op → Bool
+has_kind kind_of (Update call time) = not (is_query (kind_of call.op))
+has_kind kind_of (Query call) = is_query (kind_of call.op)
+has_kind kind_of (Done cid spot stamp) = true
+has_kind kind_of (Answer cid text stamp) = true
+
+-- whether there is such a client or such a replica
+abbrev pub is_actor : Config → Actor → Bool
+is_actor config (Client client) = nat_lt client config.clients
+is_actor config (Replica replica) = nat_lt replica config.replicas
+
+-- a message of this run: its stamp has a part for each place, and its client is one of the run's
+pub record IsShaped {Op : Type 0} (kind_of : Op → Kind) (config : Config) (message : Message Op) : Type 0 where
+  pub parts : length (stamp_in message) ≡ config.replicas + 1
+  pub client : client_in message < config.clients
+  pub kind : has_kind kind_of message ≡ true

@@ -1,0 +1,129 @@
+//! A client's side of its calls.
+ghost use Rattle.std.specs.Prelude.{◌≡◌, ◌↔◌, ◌+◌, ◌<◌, ◌^◌, None, Some, max, length, replicate, IfOk, IsErrOf, ◌≢◌, ◌≤◌};
+ghost use Rattle.lr_base.specs.Stamps.{join};
+ghost use Rattle.lr_sim.specs.Fronts.{FrontState, called, reply_taken, message_of};
+
+use lr_base::lr_service::{Kind, Operation};
+use lr_base::{Call, Cid, Message, NoMemory, Stamp};
+use std::marker::Model;
+
+// The greatest number of a client's calls.
+const LAST_CALL: u64 = 1 << 62;
+
+/// Why a call was refused.
+#[derive(Clone, Copy, PartialEq, Eq)]
+pub enum CallFault {
+    /// The front end has this call open.
+    Unfinished(Cid),
+    /// The client's count of calls has reached its greatest number.
+    Worn,
+    NoMemory,
+}
+
+/// What became of a reply.
+#[derive(Clone, Copy, PartialEq, Eq)]
+pub enum Taken {
+    /// It was the reply to the open call.
+    Got(Cid),
+    /// It was the reply to another call.
+    Stale(Cid),
+}
+
+/// A front end: the client's label, its clock and its open call.
+#[derive(Drop)]
+pub struct Front {
+    client: u32,
+    clock: u64,
+    label: Stamp,
+    calls: u64,
+    open: Option<Cid>,
+}
+
+impl Model for Front {
+    ghost use Rattle.lr_sim.specs.Fronts.{FrontState};
+    ghost use Rattle.std.specs.Prelude.{◌≤◌, ◌^◌};
+
+    ghost Value = { FrontState };
+
+    ghost view = { λ it. record { client = it.client; clock = it.clock; label = it.label; calls = it.calls; open_call = it.open } };
+
+    ghost invariant = { λ it. it.calls ≤ 2 ^ 62 };
+}
+
+impl Front {
+    /// A front end that has made no call.
+    pub fn new(client: u32, parts: u8) -> Self
+        requires some { 2 ≤ parts }
+        requires most { parts ≤ 10 }
+        ensures { result ≡ record { client = client; clock = 0; label = replicate parts 0; calls = 0; open_call = None } }
+    {
+        Front {
+            client,
+            clock: 0,
+            label: Stamp::zero(parts),
+            calls: 0,
+            open: None,
+        }
+    }
+
+    /// Makes a call at a clock reading, which counts also where the call is refused.
+    pub fn call<O: Operation>(
+        &mut self,
+        reading: u64,
+        kind: Kind,
+        op: &O,
+    ) -> Result<Message<O>, CallFault>
+        requires { kind ≡ O.kind_of op.now }
+        ensures ok { IfOk result (λ message. (self.old.open_call ≡ None) × (self.new ≡ called reading self.old) × (message ≡ message_of kind self.old reading op.now)) }
+        ensures unfinished { (cid : Cid) → (IsErrOf result (CallFault.Unfinished cid) ↔ (self.old.open_call ≡ Some cid)) }
+        ensures worn { IsErrOf result CallFault.Worn ↔ ((self.old.open_call ≡ None) × (self.old.calls ≡ 2 ^ 62)) }
+        ensures no_memory { IsErrOf result CallFault.NoMemory → self.new ≡ self.old }
+    {
+        if let Some(cid) = self.open {
+            self.clock = self.clock.max(reading);
+            return Err(CallFault::Unfinished(cid));
+        }
+        if self.calls == LAST_CALL {
+            self.clock = self.clock.max(reading);
+            return Err(CallFault::Worn);
+        }
+        let Ok(op) = op.copy() else {
+            return Err(CallFault::NoMemory);
+        };
+        let cid = Cid {
+            client: self.client,
+            seq: self.calls + 1,
+        };
+        let call = Call {
+            cid,
+            prev: self.label.copy(),
+            op,
+        };
+        self.clock = self.clock.max(reading);
+        self.calls += 1;
+        self.open = Some(cid);
+        Ok(match kind {
+            Kind::Query => Message::Query { call },
+            _ => Message::Update {
+                call,
+                time: self.clock,
+            },
+        })
+    }
+
+    /// Takes the reply to a call. Only that to the open call changes anything.
+    pub fn take_reply(&mut self, cid: Cid, stamp: &Stamp) -> Taken
+        requires { length stamp.now ≡ length self.old.label }
+        ensures got { (result ≡ Taken.Got cid) ↔ (self.old.open_call ≡ Some cid) }
+        ensures stale { (result ≡ Taken.Stale cid) ↔ (self.old.open_call ≢ Some cid) }
+        ensures taken { self.new ≡ reply_taken cid stamp.now self.old }
+        ensures parts { length self.new.label ≡ length self.old.label }
+    {
+        if self.open == Some(cid) {
+            self.label.join(stamp);
+            self.open = None;
+            return Taken::Got(cid);
+        }
+        Taken::Stale(cid)
+    }
+}
