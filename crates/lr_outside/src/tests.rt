@@ -50,8 +50,11 @@ fn a_sink_fails_at_its_listed_write_alone(rt: HostRuntime) -> Result<(), Fail> {
 #[test]
 fn a_sink_with_room_for_twenty_takes_twenty_of_twenty_five(rt: HostRuntime) -> Result<(), Fail> {
     let mut sink = FixedSink::new(rt.alloc(), 20)?;
-    let piece = b"lazyrep 1 tally 1 1 10\n1:";
-    assert_eq!(rt; write_whole(&mut sink, piece).is_err(), true);
+    write_whole(&mut sink, b"lazyrep ")?;
+    assert_eq!(rt;
+        write_whole(&mut sink, b"1 tally 1 1 10\n1:").is_err(),
+        true
+    );
     assert_eq!(rt; sink.bytes().as_slice(), b"lazyrep 1 tally 1 1 ".as_slice());
     assert_eq!(rt; sink.write(b"").ok(), Some(0));
     assert_eq!(rt; sink.write(b"x").ok(), None);
