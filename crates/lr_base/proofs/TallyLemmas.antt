@@ -9,6 +9,7 @@ use Rattle.std.specs.Map.{lookup}
 use Rattle.std.specs.FinMap.{get, find, insert, from_entries, get-from_entries, get-insert, same_map, slice_cmp-IsAntisymmetric, nat_cmp-IsAntisymmetric}
 use Rattle.std.proofs.lemmas.Cmp.{nat_list_cmp_total, eq_by_cmp_equiv}
 
+-- the value at a name, in the words of both maps
 found : (entries : List (List ℕ × ℕ)) (name : List ℕ) → find (slice_cmp nat_cmp) name entries ≡ lookup (is_at (slice_cmp nat_cmp name)) entries
 found [] name = refl
 found (e ∷ entries) name = ap (cond (is_eq (slice_cmp nat_cmp name e.0)) (Some e.1)) (found entries name)

@@ -21,7 +21,7 @@ use Rattle.lr_base.specs.Kinds.{IsUpdate}
 use Rattle.lr_base.specs.Meaning.{Lawful, is_printable}
 use Rattle.lr_base.specs.Tally.{Counts, tally, tally_kind, tally_apply, tally_is_op, tally_text, count_of}
 
--- the counter that an addition leaves
+-- the counters after an addition
 abbrev added : Counts → List ℕ → ℕ → Counts
 added v name amount = insert v name ((count_of v name + amount) % 2 ^ 64)
 
@@ -29,6 +29,7 @@ added v name amount = insert v name ((count_of v name + amount) % 2 ^ 64)
 abbrev same_name : List ℕ → List ℕ → Bool
 same_name = eq_by_cmp (slice_cmp nat_cmp)
 
+-- names that tie are one
 same_name-true : (a b : List ℕ) → same_name a b ≡ true → a ≡ b
 same_name-true a b e = go (slice_cmp nat_cmp a b) refl
   where
@@ -37,20 +38,25 @@ same_name-true a b e = go (slice_cmp nat_cmp a b) refl
     go Less is = let no : false ≡ true = rw is at e in cc
     go Greater is = let no : false ≡ true = rw is at e in cc
 
+-- a name ties with itself
 same_name-refl : (a : List ℕ) → same_name a a ≡ true
 same_name-refl a = (eq_by_cmp_equiv nat_list_cmp_total).refl a
 
+-- and ties hold both ways
 same_name-symm : (a b : List ℕ) → same_name a b ≡ same_name b a
 same_name-symm a b = (eq_by_cmp_equiv nat_list_cmp_total).symm a b
 
+-- a look-up after an addition
 get-added : (v : Counts) (name q : List ℕ) (amount : ℕ) → get (added v name amount) q ≡ cond (same_name q name) (Some ((count_of v name + amount) % 2 ^ 64)) (get v q)
 get-added v name q amount = get-insert nat_list_cmp_total v name ((count_of v name + amount) % 2 ^ 64) q
 
+-- the counter that was added to
 count-added-same : (v : Counts) (name : List ℕ) (amount : ℕ) → count_of (added v name amount) name ≡ (count_of v name + amount) % 2 ^ 64
 count-added-same v name amount =
     let own : get (added v name amount) name ≡ Some ((count_of v name + amount) % 2 ^ 64) = get-added v name name amount ∙ ap (λ b. cond b (Some ((count_of v name + amount) % 2 ^ 64)) (get v name)) (same_name-refl name) in
     ap (λ found. unwrap_or found 0) own
 
+-- another counter stays
 count-added-other : (v : Counts) (name q : List ℕ) (amount : ℕ) → same_name q name ≡ false → count_of (added v name amount) q ≡ count_of v q
 count-added-other v name q amount other =
     let kept : get (added v name amount) q ≡ get v q = get-added v name q amount ∙ ap (λ b. cond b (Some ((count_of v name + amount) % 2 ^ 64)) (get v q)) other in
@@ -81,6 +87,7 @@ apart v m n q j k other =
     ∙ ap (λ c. cond (same_name q n) (Some ((c + k) % 2 ^ 64)) (get (added v m j) q)) (count-added-other v m n j other)
     ∙ ap (cond (same_name q n) (Some ((count_of v n + k) % 2 ^ 64))) (get-added v m q j)
 
+-- two additions leave the same counters in either order
 additions-commute : (v : Counts) (m n : List ℕ) (j k : ℕ) → added (added v m j) n k ≡ added (added v n k) m j
 additions-commute v m n j k = same_map nat_list_cmp_total (slice_cmp-IsAntisymmetric nat_cmp-IsAntisymmetric) _ _ (λ q. go q (same_name n m) refl)
   where
@@ -100,6 +107,7 @@ additions-commute v m n j k = same_map nat_list_cmp_total (slice_cmp-IsAntisymme
         ∙ sym (ap (λ name. get (added (added v name k) m j) q) one ∙ twice v m q k j)
     go q false e = apart v m n q j k e ∙ either q (same_name q n) (same_name q m) _ _ _ refl refl e ∙ sym (apart v n m q k j (same_name-symm m n ∙ e))
 
+-- two updates of the tally do
 commutes : (v : Counts) (a b : TallyOp) → IsUpdate (tally_kind a) → IsUpdate (tally_kind b) → tally_apply (tally_apply v a) b ≡ tally_apply (tally_apply v b) a
 commutes v (Add m j) (Add n k) first second = additions-commute v m n j k
 commutes v (Read m) b first second = let no : true ≡ false = first in cc
@@ -111,6 +119,7 @@ amount-fits name amount is =
     let parts = and_parts (is_word name) (nat_lt amount (2 ^ 64)) is in
     (parts.0, ltb-true amount (2 ^ 64) parts.1)
 
+-- operations with one text are one
 one_text-of : (a b : TallyOp) → tally_is_op a ≡ true → tally_is_op b ≡ true → tally_text a ≡ tally_text b → a ≡ b
 one_text-of (Add m j) (Add n k) first second same =
     let a = amount-fits m j first in
@@ -128,10 +137,12 @@ one_text-of (Read m) (Add n k) first second same =
     let heads : ◌≡◌ {A = ℕ} 114 97 = ap (λ text. get_or text 0 0) same in
     absurd (omega arith)
 
+-- no text is empty
 some_text-of : (op : TallyOp) → 1 ≤ length (tally_text op)
 some_text-of (Add name amount) = omega arith
 some_text-of (Read name) = omega arith
 
+-- a text is far below 2^16 bytes
 short_text-of : (op : TallyOp) → tally_is_op op ≡ true → length (tally_text op) < 2 ^ 16
 short_text-of (Add name amount) is =
     let parts = amount-fits name amount is in
@@ -152,6 +163,7 @@ glyph-printable n acc rest =
     let most : nat_le (48 + n % 10) 126 ≡ true = le-leb (48 + n % 10) 126 (omega arith) in
     rw (low, least, most) rest
 
+-- digits before a printable text make a printable text
 onto-printable : (k n : ℕ) (acc : List ℕ) → is_printable acc ≡ true → is_printable (digits_onto k 10 false n acc) ≡ true
 onto-printable zero n acc rest = rest
 onto-printable (suc k) n acc rest =
@@ -162,11 +174,13 @@ onto-printable (suc k) n acc rest =
     either true x y first second = first
     either false x y first second = second
 
+-- a number's text is printable
 decimal-printable : (n : ℕ) → is_printable (decimal n) ≡ true
 unfolding digits
 decimal-printable n = onto-printable 64 n [] refl
 
 -- words are printable
+-- a word's byte is printable
 byte-printable : (x : ℕ) → is_word_byte x ≡ true → (nat_le 32 x && nat_le x 126) ≡ true
 byte-printable x byte = go (nat_le 97 x && nat_le x 122) refl
   where
@@ -188,15 +202,18 @@ bytes-printable (x ∷ text) pass =
     let parts = and_parts (is_word_byte x) (list_all is_word_byte text) pass in
     rw (byte-printable x parts.0) (bytes-printable text parts.1)
 
+-- two printable texts make one
 append-printable : (a b : List ℕ) → is_printable a ≡ true → is_printable b ≡ true → is_printable (a ++ b) ≡ true
 append-printable a b first second = list_all-append _ a b ∙ rw (first, second) refl
 
+-- an operation's text is printable
 printable_text-of : (op : TallyOp) → tally_is_op op ≡ true → is_printable (tally_text op) ≡ true
 printable_text-of (Add name amount) is =
     let word = is_word-parts name (amount-fits name amount is).0 in
     append-printable name (32 ∷ decimal amount) (bytes-printable name word.2) (decimal-printable amount)
 printable_text-of (Read name) is = bytes-printable name (is_word-parts name is).2
 
+-- and so is each answer
 printable_answer-of : (v : Counts) (op : TallyOp) → is_printable (tally.read v op) ≡ true
 printable_answer-of v (Add name amount) = refl
 printable_answer-of v (Read name) = decimal-printable (count_of v name)

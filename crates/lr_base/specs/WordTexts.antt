@@ -8,6 +8,7 @@ use Rattle.lr_base.specs.Word.{is_word, is_word_byte}
 abbrev pub HasNoSpace : List ℕ → Type 0
 HasNoSpace text = (k : ℕ) → get_or text k 0 ≢ 32
 
+-- a word's bytes are no spaces
 bytes-no_space : (text : List ℕ) → list_all is_word_byte text ≡ true → HasNoSpace text
 bytes-no_space [] pass k = λ space. cc
 bytes-no_space (x ∷ text) pass zero = λ space.

@@ -35,15 +35,15 @@ impl Model for Tally {
 }
 
 impl Tally {
-    /// The counter of this name, or 0 where nothing was added to it.
-    pub fn count(&self, name: &Word) -> u64
+    // The counter of this name, or 0 where nothing was added to it.
+    fn count(&self, name: &Word) -> u64
         ensures { result ≡ count_of self.now name.now }
     {
         self.counts.get(name).copied().unwrap_or(0)
     }
 
-    /// Adds to the counter of this name, modulo 2^64.
-    pub fn add(&mut self, name: &Word, amount: u64) -> Result<(), NoMemory>
+    // Adds to the counter of this name, modulo 2^64.
+    fn add(&mut self, name: &Word, amount: u64) -> Result<(), NoMemory>
         ensures ok { OnOk result (self.new
             ≡ map.insert self.old name.now ((count_of self.old name.now + amount) % 2 ^ 64)) }
         ensures err { OnErr result (self.new ≡ self.old) }
