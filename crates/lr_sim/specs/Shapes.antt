@@ -1,11 +1,13 @@
 -- What every message and every act of a run keeps.
-use Rattle.std.specs.Prelude.{◌≡◌, ◌+◌, ◌<◌, ℕ, Bool, true, false, not, List, length, slice_get, nat_lt}
+use Rattle.std.specs.Prelude.{◌≡◌, ◌+◌, ◌<◌, ℕ, Bool, true, false, not, List, [], ◌∷◌, length, slice_get, nat_lt}
 use Rattle.std.specs.Option.{ForSome}
 use Rattle.lr_base.specs.Kinds.{is_query}
 use Rattle.lr_base.specs.declared.lr_service.Kind.{Kind}
 use Rattle.lr_base.specs.declared.names.Actor.{Actor}
 use Rattle.lr_base.specs.declared.names.Actor.TheVariants.{Client, Replica}
 use Rattle.lr_base.specs.declared.names.Config.{Config}
+use Rattle.lr_sim.specs.declared.act.Act.{Act}
+use Rattle.lr_sim.specs.declared.act.Act.TheVariants.{Say, Send}
 use Rattle.lr_base.specs.declared.messages.Message.{Message}
 use Rattle.lr_base.specs.declared.messages.Message.TheVariants.{Update, Query, Done, Answer}
 
@@ -40,3 +42,18 @@ pub record IsShaped {Op : Type 0} (kind_of : Op → Kind) (config : Config) (mes
   pub parts : length (stamp_in message) ≡ config.replicas + 1
   pub client : client_in message < config.clients
   pub kind : has_kind kind_of message ≡ true
+
+-- whoever gets a message of this run is one of the run's clients or replicas
+pub record IsSendable {Op : Type 0} (kind_of : Op → Kind) (config : Config) (to : Actor) (message : Message Op) : Type 0 where
+  pub to_known : is_actor config to ≡ true
+  pub shaped : IsShaped kind_of config message
+
+-- what an act sends may be sent
+abbrev pub IsFitting : {Op : Type 0} → (Op → Kind) → Config → Act Op → Type 0
+IsFitting kind_of config (Say line) = Unit {0}
+IsFitting kind_of config (Send to message) = IsSendable kind_of config to message
+
+-- what each of these acts sends may be sent
+abbrev pub AllFitting : {Op : Type 0} → (Op → Kind) → Config → List (Act Op) → Type 0
+AllFitting kind_of config [] = Unit {0}
+AllFitting kind_of config (act ∷ acts) = IsFitting kind_of config act × AllFitting kind_of config acts

@@ -1,7 +1,10 @@
 //! The run of one script: its bytes are read as events, and what they do is printed.
 #![tactic(auto)]
 
+mod act;
+mod acts;
 mod front;
+mod replica;
 mod script;
 
 pub use script::{Cause, Header, Name, ScriptFault, print_event, read_header, read_script};

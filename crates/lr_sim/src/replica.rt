@@ -1,0 +1,227 @@
+//! One replica: what it does with a message, and the queries that it holds.
+ghost use Rattle.std.specs.Prelude.{◌≡◌, ◌∷◌, [], IfOk};
+
+use crate::act::Act;
+use crate::acts::{Acts, no_act, say, send};
+use lr_base::lr_service::{Operation, Service};
+use lr_base::{
+    Actor, Call, Cid, Config, Fresh, Message, NoMemory, Outcome, Refusal, Rows, Spot, Stamp,
+    StateLine, Text,
+};
+use lr_causal::Causal;
+use std::alloc::Global;
+
+// How many queries a replica holds at the most.
+const HELD_ROOM: usize = 1024;
+
+// The greatest number of a replica's items.
+const LAST_ITEM: u64 = 1 << 62;
+
+/// A replica, with the queries that wait for what their labels name.
+#[derive(Drop)]
+pub struct Replica<S: Service> {
+    causal: Causal<S>,
+    held: Vec<Call<S::Op>>,
+}
+
+impl<S: Service> Replica<S> {
+    ghost use Rattle.std.specs.Prelude.{◌≡◌, ◌+◌, ◌<◌, length, IsTrue, IfOk};
+    ghost use Rattle.lr_base.specs.Config.{IsValid};
+    ghost use Rattle.lr_base.specs.Kinds.{IsQuery, IsUpdate};
+    ghost use Rattle.lr_base.specs.declared.names.Actor.TheVariants.{Client};
+    ghost use Rattle.lr_causal.specs.State.{config_of};
+    ghost use Rattle.lr_sim.specs.Shapes.{AllFitting, IsShaped};
+    ghost use Rattle.lr_sim.specs.Replicas.{setting_of};
+
+    /// A replica at which nothing has happened.
+    pub fn new(alloc: Global, config: Config, me: u8) -> Result<Self, NoMemory>
+        requires valid { IsValid config }
+        requires own_place { me < config.replicas }
+        ensures { IfOk result (λ made. setting_of made ≡ config) }
+    {
+        let causal = Causal::new(alloc, config, me)?;
+        Ok(Replica {
+            causal,
+            held: Vec::new(alloc),
+        })
+    }
+
+    /// Takes a message that was sent to it.
+    pub fn take(&mut self, message: &Message<S::Op>) -> Result<Acts<S::Op>, NoMemory>
+        requires { IsShaped S.Op.kind_of (setting_of self.old) message.now }
+        ensures acts { IfOk result (λ acts. AllFitting S.Op.kind_of (setting_of self.old) acts.items) }
+        ensures setting { setting_of self.new ≡ setting_of self.old }
+    {
+        match message {
+            Message::Update { call, time } => self.take_update(call, *time),
+            Message::Query { call } => self.take_query(call),
+            // A reply has no rule at a replica.
+            _ => Ok(no_act(self.allocator())),
+        }
+    }
+
+    fn allocator(&self) -> Global {
+        *self.held.allocator()
+    }
+
+    // The first checks of an update.
+    fn take_update(&mut self, call: &Call<S::Op>, time: u64) -> Result<Acts<S::Op>, NoMemory>
+        requires parts { length call.now.prev ≡ (setting_of self.old).replicas + 1 }
+        requires client { call.now.cid.client < (setting_of self.old).clients }
+        requires update { IsUpdate (S.Op.kind_of call.now.op) }
+        ensures acts { IfOk result (λ acts. AllFitting S.Op.kind_of (setting_of self.old) acts.items) }
+        ensures setting { setting_of self.new ≡ setting_of self.old }
+    {
+        match self.causal.fresh(call.cid, time) {
+            Fresh::Late { time, clock } => refused(self.allocator(), Refusal::Late { time, clock }),
+            Fresh::Again { spot, stamp } => {
+                let why = Refusal::Again { spot };
+                let line = Outcome::Refuse { why };
+                replied(self.allocator(), line, call.cid, spot, stamp)
+            }
+            Fresh::Settled => refused(self.allocator(), Refusal::Settled),
+            Fresh::New => self.accept(call),
+        }
+    }
+
+    // An update that is new here.
+    fn accept(&mut self, call: &Call<S::Op>) -> Result<Acts<S::Op>, NoMemory>
+        requires parts { length call.now.prev ≡ (setting_of self.old).replicas + 1 }
+        requires client { call.now.cid.client < (setting_of self.old).clients }
+        requires update { IsUpdate (S.Op.kind_of call.now.op) }
+        ensures acts { IfOk result (λ acts. AllFitting S.Op.kind_of (setting_of self.old) acts.items) }
+        ensures setting { setting_of self.new ≡ setting_of self.old }
+    {
+        if !self.causal.log().has_room() {
+            return refused(self.allocator(), Refusal::FullLog);
+        }
+        if self.causal.rep_ts().part(self.causal.me()) >= LAST_ITEM {
+            return refused(self.allocator(), Refusal::Worn);
+        }
+        let (spot, stamp) = self.causal.accept(call)?;
+        self.causal.settle()?;
+        let cid = call.cid;
+        let line = Outcome::Accept { spot, cid };
+        replied(self.allocator(), line, cid, spot, stamp)
+    }
+
+    // A query is answered, or held until all that its label names is applied.
+    fn take_query(&mut self, call: &Call<S::Op>) -> Result<Acts<S::Op>, NoMemory>
+        requires parts { length call.now.prev ≡ (setting_of self.old).replicas + 1 }
+        requires client { call.now.cid.client < (setting_of self.old).clients }
+        requires query { IsQuery (S.Op.kind_of call.now.op) }
+        ensures acts { IfOk result (λ acts. AllFitting S.Op.kind_of (setting_of self.old) acts.items) }
+        ensures setting { setting_of self.new ≡ setting_of self.old }
+    {
+        match self.causal.read(&call.prev, &call.op)? {
+            Some(text) => {
+                let stamp = self.causal.val_ts().copy();
+                answered(self.allocator(), call.cid, text, stamp)
+            }
+            None => self.hold(call),
+        }
+    }
+
+    fn hold(&mut self, call: &Call<S::Op>) -> Result<Acts<S::Op>, NoMemory>
+        ensures acts { IfOk result (λ acts. AllFitting S.Op.kind_of (setting_of self.old) acts.items) }
+        ensures setting { setting_of self.new ≡ setting_of self.old }
+    {
+        if self.held.len() >= HELD_ROOM {
+            return refused(self.allocator(), Refusal::FullHeld);
+        }
+        let copy = call.copy()?;
+        self.held.push(copy)?;
+        say(self.allocator(), Outcome::Hold { cid: call.cid })
+    }
+
+    /// What is printed of its state.
+    pub fn state_line(&self) -> Result<Outcome, NoMemory> {
+        let line = StateLine {
+            replica: self.causal.me(),
+            view: 0,
+            clock: self.causal.clock(),
+            received: self.causal.rep_ts().copy(),
+            log: self.logged_updates()?,
+            acks: self.logged_acks()?,
+            calls: self.executed_calls()?,
+            held: self.held_calls()?,
+            marks: Rows::new(self.allocator()),
+        };
+        Ok(Outcome::State { line })
+    }
+
+    fn logged_updates(&self) -> Result<Rows<Spot>, NoMemory> {
+        let mut spots = Rows::new(self.allocator());
+        for update in self.causal.log().updates() {
+            spots.push(update.spot)?;
+        }
+        Ok(spots)
+    }
+
+    fn logged_acks(&self) -> Result<Rows<Spot>, NoMemory> {
+        let mut spots = Rows::new(self.allocator());
+        for ack in self.causal.log().acks() {
+            spots.push(ack.spot)?;
+        }
+        Ok(spots)
+    }
+
+    // The executed calls, ascending.
+    fn executed_calls(&self) -> Result<Rows<Cid>, NoMemory> {
+        let mut cids = self.causal.calls().cids(self.allocator())?;
+        cids.sort_unstable();
+        Rows::from_slice(self.allocator(), cids.as_slice())
+    }
+
+    // The held queries, in the order of arrival.
+    fn held_calls(&self) -> Result<Rows<Cid>, NoMemory> {
+        let mut cids = Rows::new(self.allocator());
+        for call in self.held.as_slice() {
+            cids.push(call.cid)?;
+        }
+        Ok(cids)
+    }
+}
+
+fn refused<O: Operation>(alloc: Global, why: Refusal) -> Result<Acts<O>, NoMemory>
+    ensures { IfOk result (λ acts. acts.items ≡ Act.Say (Outcome.Refuse why) ∷ []) }
+{
+    say(alloc, Outcome::Refuse { why })
+}
+
+// A line, and then the reply to an update.
+fn replied<O: Operation>(
+    alloc: Global,
+    line: Outcome,
+    cid: Cid,
+    spot: Spot,
+    stamp: Stamp,
+) -> Result<Acts<O>, NoMemory>
+    ensures { IfOk result (λ acts. acts.items ≡ Act.Say line ∷ Act.Send (Actor.Client cid.client) (Message.Done cid spot stamp) ∷ []) }
+{
+    let mut acts = say(alloc, line)?;
+    send(
+        &mut acts,
+        Actor::Client(cid.client),
+        Message::Done { cid, spot, stamp },
+    )?;
+    Ok(acts)
+}
+
+// The reply to a query.
+fn answered<O: Operation>(
+    alloc: Global,
+    cid: Cid,
+    text: Text,
+    stamp: Stamp,
+) -> Result<Acts<O>, NoMemory>
+    ensures { IfOk result (λ acts. acts.items ≡ Act.Send (Actor.Client cid.client) (Message.Answer cid text stamp) ∷ []) }
+{
+    let mut acts = no_act(alloc);
+    send(
+        &mut acts,
+        Actor::Client(cid.client),
+        Message::Answer { cid, text, stamp },
+    )?;
+    Ok(acts)
+}
