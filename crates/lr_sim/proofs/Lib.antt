@@ -2,3 +2,5 @@ pub mod Splits
 pub mod Cuts
 pub mod Printables
 pub mod EventFaults
+mod Calling
+mod Everywhere

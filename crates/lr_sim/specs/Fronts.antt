@@ -1,11 +1,10 @@
 -- What contracts see of a front end, and what its commands do.
-use Rattle.std.specs.Prelude.{◌==◌, ◌&&◌, ◌+◌, ℕ, Bool, false, max, List, Option, Some, None, if◌then◌else◌}
+use Rattle.std.specs.Prelude.{◌+◌, ℕ, Bool, false, max, List, Option, Some, None, if◌then◌else◌}
 use Rattle.lr_base.specs.Rules.{same_cid}
 use Rattle.lr_base.specs.Stamps.{join}
 use Rattle.lr_base.specs.declared.lr_service.Kind.{Kind}
-use Rattle.lr_base.specs.declared.lr_service.Kind.TheVariants.{Query as AQuery, Causal, Forced, Immediate}
+use Rattle.lr_base.specs.declared.lr_service.Kind.TheVariants.{Query as AQuery}
 use Rattle.lr_base.specs.declared.names.Cid.{Cid}
-use Rattle.lr_base.specs.declared.messages.Call.{Call}
 use Rattle.lr_base.specs.declared.messages.Message.{Message}
 use Rattle.lr_base.specs.declared.messages.Message.TheVariants.{Update, Query}
 

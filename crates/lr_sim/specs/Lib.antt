@@ -1,7 +1,9 @@
 pub mod Faults
 pub mod Fields
 pub mod Fronts
+pub mod Posts
 pub mod Replicas
 pub mod Script
 pub mod Shapes
 pub mod Texts
+pub mod Worlds

@@ -1,6 +1,5 @@
 -- What every message and every act of a run keeps.
-use Rattle.std.specs.Prelude.{◌≡◌, ◌+◌, ◌<◌, ℕ, Bool, true, false, not, List, [], ◌∷◌, length, slice_get, nat_lt}
-use Rattle.std.specs.Option.{ForSome}
+use Rattle.std.specs.Prelude.{◌≡◌, ◌+◌, ◌<◌, ℕ, Bool, true, not, List, [], ◌∷◌, length, nat_lt}
 use Rattle.lr_base.specs.Kinds.{is_query}
 use Rattle.lr_base.specs.declared.lr_service.Kind.{Kind}
 use Rattle.lr_base.specs.declared.names.Actor.{Actor}
@@ -8,6 +7,8 @@ use Rattle.lr_base.specs.declared.names.Actor.TheVariants.{Client, Replica}
 use Rattle.lr_base.specs.declared.names.Config.{Config}
 use Rattle.lr_sim.specs.declared.act.Act.{Act}
 use Rattle.lr_sim.specs.declared.act.Act.TheVariants.{Say, Send}
+use Rattle.lr_base.specs.declared.events.Event.{Event}
+use Rattle.lr_base.specs.declared.events.Event.TheVariants.{Call, Deliver, Show}
 use Rattle.lr_base.specs.declared.messages.Message.{Message}
 use Rattle.lr_base.specs.declared.messages.Message.TheVariants.{Update, Query, Done, Answer}
 
@@ -57,3 +58,9 @@ IsFitting kind_of config (Send to message) = IsSendable kind_of config to messag
 abbrev pub AllFitting : {Op : Type 0} → (Op → Kind) → Config → List (Act Op) → Type 0
 AllFitting kind_of config [] = Unit {0}
 AllFitting kind_of config (act ∷ acts) = IsFitting kind_of config act × AllFitting kind_of config acts
+
+-- an event names a client and a replica that there are
+abbrev pub IsInRange : {Op : Type 0} → Config → Event Op → Type 0
+IsInRange config (Call client replica reading op) = (client < config.clients) × (replica < config.replicas)
+IsInRange config (Deliver message) = Unit {0}
+IsInRange config (Show replica) = replica < config.replicas

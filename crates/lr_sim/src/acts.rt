@@ -27,7 +27,11 @@ pub fn say<O: Operation>(alloc: Global, line: Outcome) -> Result<Acts<O>, NoMemo
 }
 
 /// Sends a message behind the other acts.
-pub fn send<O: Operation>(acts: &mut Acts<O>, to: Actor, message: Message<O>) -> Result<(), NoMemory>
+pub fn send<O: Operation>(
+    acts: &mut Acts<O>,
+    to: Actor,
+    message: Message<O>,
+) -> Result<(), NoMemory>
     ensures { OnOk result (acts.new.items ≡ acts.old.items ++ Act.Send to message ∷ []) }
 {
     acts.push_back(Act::Send { to, message })?;

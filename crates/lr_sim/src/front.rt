@@ -36,7 +36,7 @@ pub struct Front {
     clock: u64,
     label: Stamp,
     calls: u64,
-    open: Option<Cid>,
+    open_call: Option<Cid>,
 }
 
 impl Model for Front {
@@ -45,7 +45,7 @@ impl Model for Front {
 
     ghost Value = { FrontState };
 
-    ghost view = { λ it. record { client = it.client; clock = it.clock; label = it.label; calls = it.calls; open_call = it.open } };
+    ghost view = { λ it. record { client = it.client; clock = it.clock; label = it.label; calls = it.calls; open_call = it.open_call } };
 
     ghost invariant = { λ it. it.calls ≤ 2 ^ 62 };
 }
@@ -62,7 +62,7 @@ impl Front {
             clock: 0,
             label: Stamp::zero(parts),
             calls: 0,
-            open: None,
+            open_call: None,
         }
     }
 
@@ -77,9 +77,11 @@ impl Front {
         ensures ok { IfOk result (λ message. (self.old.open_call ≡ None) × (self.new ≡ called reading self.old) × (message ≡ message_of kind self.old reading op.now)) }
         ensures unfinished { (cid : Cid) → (IsErrOf result (CallFault.Unfinished cid) ↔ (self.old.open_call ≡ Some cid)) }
         ensures worn { IsErrOf result CallFault.Worn ↔ ((self.old.open_call ≡ None) × (self.old.calls ≡ 2 ^ 62)) }
+        ensures label { self.new.label ≡ self.old.label }
+        ensures client { self.new.client ≡ self.old.client }
         ensures no_memory { IsErrOf result CallFault.NoMemory → self.new ≡ self.old }
     {
-        if let Some(cid) = self.open {
+        if let Some(cid) = self.open_call {
             self.clock = self.clock.max(reading);
             return Err(CallFault::Unfinished(cid));
         }
@@ -101,7 +103,7 @@ impl Front {
         };
         self.clock = self.clock.max(reading);
         self.calls += 1;
-        self.open = Some(cid);
+        self.open_call = Some(cid);
         Ok(match kind {
             Kind::Query => Message::Query { call },
             _ => Message::Update {
@@ -118,10 +120,11 @@ impl Front {
         ensures stale { (result ≡ Taken.Stale cid) ↔ (self.old.open_call ≢ Some cid) }
         ensures taken { self.new ≡ reply_taken cid stamp.now self.old }
         ensures parts { length self.new.label ≡ length self.old.label }
+        ensures client { self.new.client ≡ self.old.client }
     {
-        if self.open == Some(cid) {
+        if self.open_call == Some(cid) {
             self.label.join(stamp);
-            self.open = None;
+            self.open_call = None;
             return Taken::Got(cid);
         }
         Taken::Stale(cid)

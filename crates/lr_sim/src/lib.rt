@@ -4,7 +4,9 @@
 mod act;
 mod acts;
 mod front;
+mod posted;
 mod replica;
 mod script;
+mod world;
 
 pub use script::{Cause, Header, Name, ScriptFault, print_event, read_header, read_script};

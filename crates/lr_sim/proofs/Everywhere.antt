@@ -1,0 +1,34 @@
+-- Facts about every element of a list, by its index.
+use Rattle.std.proofs.Common.{◌≡◌, ℕ, zero, suc, List, [], ◌∷◌, ◌++◌, length, set, Some, None, subst, sym, cond, Bool, true, false, ◌<◌, get_or}
+use Rattle.std.proofs.lemmas.Option.{slice_get_read}
+use Rattle.std.specs.Prelude.{slice_get}
+use Rattle.std.specs.Option.{ForSome}
+
+module _ {X : Type 0} where
+  -- one element is written
+  pub each-set : (xs : List X) (i : ℕ) (y : X) (P : ℕ → X → Type 0) → ((k : ℕ) → ForSome (slice_get xs k) (P k)) → P i y → (k : ℕ) → ForSome (slice_get (set xs i y) k) (P k)
+  each-set [] i y P all own k = all k
+  each-set (x ∷ xs) zero y P all own zero = λ z e. let same : y ≡ z = cc in subst (λ (v : X). P 0 v) same own
+  each-set (x ∷ xs) zero y P all own (suc k) = all (suc k)
+  each-set (x ∷ xs) (suc i) y P all own zero = all 0
+  each-set (x ∷ xs) (suc i) y P all own (suc k) = each-set xs i y (λ n. P (suc n)) (λ n. all (suc n)) own k
+
+  -- one element comes behind the others
+  pub each-push : (xs : List X) (y : X) (P : ℕ → X → Type 0) → ((k : ℕ) → ForSome (slice_get xs k) (P k)) → P (length xs) y → (k : ℕ) → ForSome (slice_get (xs ++ y ∷ []) k) (P k)
+  each-push [] y P all own zero = λ z e. let same : y ≡ z = cc in subst (λ (v : X). P 0 v) same own
+  each-push [] y P all own (suc k) = λ z e. let none : None ≡ Some z = e in cc
+  each-push (x ∷ xs) y P all own zero = all 0
+  each-push (x ∷ xs) y P all own (suc k) = each-push xs y (λ n. P (suc n)) (λ n. all (suc n)) own k
+
+  -- the same of a list that is known by an equation
+  pub each-pushed : (xs new : List X) (y : X) (P : ℕ → X → Type 0) → new ≡ xs ++ y ∷ [] → ((k : ℕ) → ForSome (slice_get xs k) (P k)) → P (length xs) y → (k : ℕ) → ForSome (slice_get new k) (P k)
+  each-pushed xs new y P is all own = subst (λ (ys : List X). (k : ℕ) → ForSome (slice_get ys k) (P k)) (sym is) (each-push xs y P all own)
+
+  -- the same where it is only added on success
+  pub each-pushed-if : (added : Bool) (xs new : List X) (y : X) (P : ℕ → X → Type 0) → new ≡ cond added (xs ++ y ∷ []) xs → ((k : ℕ) → ForSome (slice_get xs k) (P k)) → P (length xs) y → (k : ℕ) → ForSome (slice_get new k) (P k)
+  each-pushed-if true xs new y P is all own = each-pushed xs new y P is all own
+  each-pushed-if false xs new y P is all own = subst (λ (ys : List X). (k : ℕ) → ForSome (slice_get ys k) (P k)) (sym is) all
+
+  -- an element that was read is one of them
+  pub each-read : (xs : List X) (i : ℕ) (x : X) (P : ℕ → X → Type 0) → ((k : ℕ) → ForSome (slice_get xs k) (P k)) → (count : ℕ) → count ≡ length xs → i < count → x ≡ get_or xs i x → P i x
+  each-read xs i x P all count long within is = all i x (slice_get_read xs count i x long within is)

@@ -1,0 +1,21 @@
+-- What the messages and the front ends of a run keep.
+use Rattle.std.specs.Prelude.{◌≡◌, ◌+◌, ℕ, List, length, slice_get}
+use Rattle.std.specs.Option.{ForSome}
+use Rattle.lr_base.specs.declared.lr_service.Kind.{Kind}
+use Rattle.lr_base.specs.declared.names.Config.{Config}
+use Rattle.lr_sim.specs.Fronts.{FrontState}
+use Rattle.lr_sim.specs.Shapes.{IsSendable}
+use Rattle.lr_sim.specs.declared.posted.Posted.{Posted}
+
+-- each message that was sent may be delivered
+abbrev pub AllPosted : {Op : Type 0} → (Op → Kind) → Config → List (Posted Op) → Type 0
+AllPosted kind_of config posted = (k : ℕ) → ForSome (slice_get posted k) (λ p. IsSendable kind_of config p.to p.message)
+
+-- a front end of this run, with its client's number
+pub record IsFront (config : Config) (client : ℕ) (front : FrontState) : Type 0 where
+  pub parts : length front.label ≡ config.replicas + 1
+  pub number : front.client ≡ client
+
+-- there is a front end for each client, in order
+abbrev pub AllFronts : Config → List FrontState → Type 0
+AllFronts config fronts = (k : ℕ) → ForSome (slice_get fronts k) (IsFront config k)
