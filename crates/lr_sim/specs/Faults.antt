@@ -13,7 +13,7 @@ use Rattle.lr_sim.specs.declared.script.fields.Word.TheVariants.{Call, Deliver, 
 use Rattle.lr_sim.specs.declared.script.Header.{Header as Head}
 use Rattle.lr_base.specs.declared.events.Event.{Event}
 use Rattle.lr_sim.specs.Texts.{header_text}
-use Rattle.lr_sim.specs.Script.{line_of, events_text, IsSetUp, Fits}
+use Rattle.lr_sim.specs.Script.{line_of, events_text, IsSetUp, Fits, IsNoScript}
 use Rattle.lr_sim.specs.Fields.{spaces, word_text, four_fields, IsCallFields, IsNoNumber}
 
 -- there is a line feed among the bytes
@@ -112,7 +112,7 @@ pub data IsBadLine {Value Op : Type 0} (m : Meaning Value Op) (config : Config) 
 pub data IsBadHead (bytes : List ℕ) : ℕ → Cause → Type 0 where
   too_long : 8388608 < length bytes → IsBadHead bytes 0 TooLong
   empty : bytes ≡ [] → IsBadHead bytes 1 Header
-  no_line : (cause : Cause) → length bytes ≤ 8388608 → 1 ≤ length bytes → IsNoLine bytes cause → IsBadHead bytes 1 cause
+  bad_head : (cause : Cause) → length bytes ≤ 8388608 → 1 ≤ length bytes → IsNoLine bytes cause → IsBadHead bytes 1 cause
   no_header : (line later : List ℕ) → length bytes ≤ 8388608 → bytes ≡ line ++ 10 ∷ later → is_printable line ≡ true → ((header : Head) → IsSetUp header.config → line ≢ header_text header) → IsBadHead bytes 1 Header
 
 -- the lines before this one are events', and here the next event's would begin
@@ -153,3 +153,8 @@ IsLineFault m config lines NoMemory = Unit {0}
 abbrev pub IsScriptFault : {Value Op : Type 0} → Meaning Value Op → List ℕ → ScriptFault → Type 0
 IsScriptFault m bytes (Line line cause) = IsBadHead bytes line cause ⊎ IsBadAt m bytes line cause
 IsScriptFault m bytes NoMemory = Unit {0}
+
+-- where the fault is a line's, the bytes are no script
+abbrev pub IsRefused : {Value Op : Type 0} → Meaning Value Op → List ℕ → ScriptFault → Type 0
+IsRefused m bytes (Line line cause) = IsNoScript m bytes
+IsRefused m bytes NoMemory = Unit {0}

@@ -2,7 +2,7 @@
 ghost use Rattle.std.specs.Prelude.{◌≡◌, ◌+◌, ◌<◌, ◌≤◌, ◌++◌, ◌↔◌, length, IfOk, IfErr};
 ghost use Rattle.std.specs.List.{All};
 ghost use Rattle.lr_sim.specs.declared.script.Header.{Header};
-ghost use Rattle.lr_sim.specs.Faults.{IsFaultAt, IsBadLine, IsHeadFault, IsLineFault, IsScriptFault};
+ghost use Rattle.lr_sim.specs.Faults.{IsFaultAt, IsBadLine, IsHeadFault, IsLineFault, IsRefused, IsScriptFault};
 ghost use Rattle.lr_sim.specs.Script.{Fits, IsSetUp, IsScript, HasHeader, line_of, events_text};
 ghost use Rattle.lr_sim.specs.Texts.{event_text, header_text};
 
@@ -34,10 +34,14 @@ pub fn read_script<S: Service>(
 ) -> Result<Rows<Event<S::Op>>, ScriptFault>
     ensures ok { IfOk result (λ events. (header : Header) × IsScript S.meaning header events bytes.now) }
     ensures long { (result ≡ Err (ScriptFault.Line 0 Cause.TooLong)) ↔ (8388608 < length bytes.now) }
+    ensures same { (header : Header) → HasHeader header bytes.now → IfOk result (λ events. IsScript S.meaning header events bytes.now) }
     ensures err { IfErr result (IsScriptFault S.meaning bytes.now) }
+    ensures refused { IfErr result (IsRefused S.meaning bytes.now) }
 {
-    let (header, lines) = split_header(bytes)?;
-    read_events::<S>(alloc, header.config, lines)
+    match split_header(bytes) {
+        Ok((header, lines)) => read_events::<S>(alloc, header.config, lines),
+        Err(fault) => Err(fault),
+    }
 }
 
 // The header, and the lines behind it.

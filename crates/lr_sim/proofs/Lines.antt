@@ -1,0 +1,331 @@
+-- The texts of headers and events are printable, and no line that was refused is one of them.
+use Rattle.std.proofs.Common.{◌≡◌, ◌≢◌, ℕ, suc, get_or, drop, append_assoc, subst, ◌+◌, ◌*◌, ◌/◌, ◌%◌, ◌<◌, ◌≤◌, ◌^◌, Bool, true, false, not, cond, ◌&&◌, ◌||◌, eqb, leb, List, [], ◌∷◌, ◌++◌, length, Option, Some, None, refl, sym, ◌∙◌, ap, arith, inl, inr, ◌⊎◌, Result, Ok, Err}
+use Rattle.std.specs.Prelude.{IfOk, IfErr}
+use Rattle.std.specs.List.{All, list_all, list_any}
+use Rattle.std.specs.Fmt.{decimal}
+use Rattle.std.proofs.lemmas.Bool.Decides.{nat_tests}
+use Rattle.std.proofs.lemmas.Fmt.{decimal_by_steps, decimal_injective}
+use Rattle.std.proofs.lemmas.List.Folds.{list_all-append, list_any-append}
+use Rattle.lr_base.specs.Meaning.{Meaning, is_printable}
+use Rattle.lr_base.specs.declared.events.Event.{Event}
+use Rattle.lr_base.specs.declared.events.Event.TheVariants.{Call, Deliver, Show}
+use Rattle.lr_base.specs.declared.names.Config.{Config}
+use Rattle.lr_sim.specs.declared.script.Cause.{Cause}
+use Rattle.lr_sim.specs.declared.script.Cause.TheVariants.{TooLong, Unended, Byte, Header as NoHeader, Event as NoWord, Fields, Number, Range, Op as NoOp}
+use Rattle.lr_sim.specs.declared.script.Header.{Header}
+use Rattle.lr_sim.specs.declared.script.Name.{Name}
+use Rattle.lr_sim.specs.declared.script.Name.TheVariants.{Tally}
+use Rattle.lr_sim.specs.declared.script.ScriptFault.{ScriptFault}
+use Rattle.lr_sim.specs.declared.script.ScriptFault.TheVariants.{Line, NoMemory}
+use Rattle.lr_sim.specs.declared.script.fields.Word.{Word}
+use Rattle.lr_sim.specs.declared.script.fields.Word.TheVariants.{Call as WCall, Deliver as WDeliver, Show as WShow}
+use Rattle.lr_sim.specs.Fields.{spaces, word_text, four_fields, IsCallFields, IsConfigFields, IsNoNumber}
+use Rattle.lr_sim.specs.Script.{Fits, IsSetUp, IsScript, IsNoScript, HasHeader, line_of, events_text}
+use Rattle.lr_sim.specs.Texts.{event_text, header_text, config_text, service_text}
+use Rattle.lr_sim.specs.Faults.{IsNoLine, HasBadByte, HasNoNumber, IsOutOfRange, HasNoOp, IsBadCall, IsBadDeliver, IsBadShow, IsBadFields, IsBadEvent, no_word, word_alone, bad_rest, IsBadLine, no_line, no_event, IsBadHead, too_long, empty, bad_head, no_header, IsBadAt, IsHeadFault, IsLineFault, IsScriptFault, IsRefused}
+use Rattle.lr_sim.proofs.Splits.{spaces-append, spaces_behind}
+use Rattle.lr_sim.proofs.Cuts.{all_head, all_tail, cut_one, field_one, number_spaceless, config_one, service_spaceless}
+
+both : (a b : Bool) → a ≡ true → b ≡ true → (a && b) ≡ true
+both true b ha hb = hb
+both false b ha hb = cc
+
+-- texts of printable bytes behind one another are one
+printable_more : (a b : List ℕ) → is_printable a ≡ true → is_printable b ≡ true → is_printable (a ++ b) ≡ true
+printable_more a b ha hb = list_all-append (λ byte. leb 32 byte && leb byte 126) a b ∙ both (is_printable a) (is_printable b) ha hb
+
+digit_shown : (n : ℕ) → n < 10 → is_printable ((48 + n) ∷ []) ≡ true
+digit_shown n h =
+    let low : leb 32 (48 + n) ≡ true = grind (arith, nat_tests) in
+    let high : leb (48 + n) 126 ≡ true = grind (arith, nat_tests) in
+    both (leb 32 (48 + n) && leb (48 + n) 126) true (both (leb 32 (48 + n)) (leb (48 + n) 126) low high) refl
+
+pub number_printable : (n : ℕ) → n < 2 ^ 64 → is_printable (decimal n) ≡ true
+number_printable n h = decimal_by_steps (λ m text. is_printable text ≡ true) digit_shown
+    (λ m ds long more. let last : m % 10 < 10 = omega arith in printable_more ds ((48 + m % 10) ∷ []) more (digit_shown (m % 10) last)) n h
+
+pub config_printable : (config : Config) → IsSetUp config → is_printable (config_text config) ≡ true
+config_printable config set =
+    printable_more (decimal config.replicas) (32 ∷ (decimal config.clients ++ 32 ∷ decimal config.delta)) (number_printable config.replicas (omega arith))
+    (printable_more (decimal config.clients) (32 ∷ decimal config.delta) (number_printable config.clients (omega arith)) (number_printable config.delta set.number))
+
+pub header_printable : (header : Header) → IsSetUp header.config → is_printable (header_text header) ≡ true
+header_printable header set = elim header.service as (λ service. is_printable (service_text service ++ 32 ∷ config_text header.config) ≡ true) [ Tally ↦ config_printable header.config set ]
+
+-- each operation's text is printable, and no two operations have one text
+abbrev pub ArePrintable : {Value Op : Type 0} → Meaning Value Op → Type 0
+ArePrintable {Value} {Op} m = (op : Op) → m.is_op op ≡ true → is_printable (m.text op) ≡ true
+
+pub event_printable : {Value Op : Type 0} (m : Meaning Value Op) → ArePrintable m → (config : Config) → IsSetUp config → (event : Event Op) → Fits m config event → is_printable (event_text m event) ≡ true
+event_printable m ops config set (Call client replica reading op) fits =
+    printable_more (decimal client) (32 ∷ (decimal replica ++ 32 ∷ (decimal reading ++ 32 ∷ m.text op))) (number_printable client (omega (arith, fits.0)))
+    (printable_more (decimal replica) (32 ∷ (decimal reading ++ 32 ∷ m.text op)) (number_printable replica (omega (arith, fits.1)))
+    (printable_more (decimal reading) (32 ∷ m.text op) (number_printable reading fits.2) (ops op fits.3)))
+event_printable m ops config set (Deliver message) fits = number_printable message fits
+event_printable m ops config set (Show replica) fits = number_printable replica (omega (arith, fits))
+
+-- the first elements that fail a test are one
+cut_same : (p : ℕ → Bool) (c d : ℕ) → p c ≡ false → p d ≡ false → (f g r s : List ℕ) → f ++ c ∷ r ≡ g ++ d ∷ s → list_all p f ≡ true → list_all p g ≡ true → c ≡ d
+cut_same p c d hc hd [] [] r s e hf hg = cc
+cut_same p c d hc hd [] (y ∷ g) r s e hf hg =
+    let y_is : c ≡ y = cc in
+    let yes : p y ≡ true = all_head (p y) (list_all p g) hg in
+    let off : p y ≡ false = ap p (sym y_is) ∙ hc in
+    let bad : true ≡ false = sym yes ∙ off in absurd (cc)
+cut_same p c d hc hd (x ∷ f) [] r s e hf hg =
+    let x_is : d ≡ x = cc in
+    let yes : p x ≡ true = all_head (p x) (list_all p f) hf in
+    let off : p x ≡ false = ap p (sym x_is) ∙ hd in
+    let bad : true ≡ false = sym yes ∙ off in absurd (cc)
+cut_same p c d hc hd (x ∷ f) (y ∷ g) r s e hf hg =
+    let tail : f ++ c ∷ r ≡ g ++ d ∷ s = cc in
+    cut_same p c d hc hd f g r s tail (all_tail (p x) (list_all p f) hf) (all_tail (p y) (list_all p g) hg)
+
+or_true : (a b : Bool) → b ≡ true → (a || b) ≡ true
+or_true true b h = refl
+or_true false b h = h
+
+and_true : (b : Bool) → (b && true) ≡ false → b ≡ false
+and_true true h = h
+and_true false h = refl
+
+-- bytes that begin with a printable line are not refused for want of one
+pub no_line_refuted : (bytes line later : List ℕ) (cause : Cause) → bytes ≡ line ++ 10 ∷ later → is_printable line ≡ true → IsNoLine bytes cause → ⊥
+no_line_refuted bytes line later Unended e printable h =
+    let there : list_any (λ byte. eqb byte 10) (line ++ 10 ∷ later) ≡ true = list_any-append (λ byte. eqb byte 10) line (10 ∷ later) ∙ or_true (list_any (λ byte. eqb byte 10) line) true refl in
+    let bad : false ≡ true = sym h ∙ ap (λ xs. list_any (λ byte. eqb byte 10) xs) e ∙ there in cc
+no_line_refuted bytes line later Byte e printable h =
+    let off : (leb 32 h.byte && leb h.byte 126) ≡ false = and_true (leb 32 h.byte && leb h.byte 126) h.bad in
+    h.other (cut_same (λ byte. leb 32 byte && leb byte 126) h.byte 10 off refl h.before line h.later later (sym h.text ∙ e) h.printable printable)
+no_line_refuted bytes line later _ e printable h = h
+
+event_word : {Op : Type 0} → Event Op → Word
+event_word (Call client replica reading op) = WCall
+event_word (Deliver message) = WDeliver
+event_word (Show replica) = WShow
+
+event_rest : {Value Op : Type 0} → Meaning Value Op → Event Op → List ℕ
+event_rest m (Call client replica reading op) = four_fields (decimal client) (decimal replica) (decimal reading) (m.text op)
+event_rest m (Deliver message) = decimal message
+event_rest m (Show replica) = decimal replica
+
+event_parts : {Value Op : Type 0} (m : Meaning Value Op) (event : Event Op) → event_text m event ≡ word_text (event_word event) ++ 32 ∷ event_rest m event
+unfolding event_word event_rest
+event_parts m (Call client replica reading op) = refl
+event_parts m (Deliver message) = refl
+event_parts m (Show replica) = refl
+
+word_spaces : (word : Word) → spaces (word_text word) ≡ 0
+word_spaces WCall = refl
+word_spaces WDeliver = refl
+word_spaces WShow = refl
+
+word_one : (a b : Word) → word_text a ≡ word_text b → a ≡ b
+word_one WCall WCall e = refl
+word_one WCall WDeliver e = cc
+word_one WCall WShow e = let first : true ≡ false = ap (λ (xs : List ℕ). eqb (get_or xs 0 0) 99) e in absurd (cc)
+word_one WDeliver WCall e = cc
+word_one WDeliver WDeliver e = refl
+word_one WDeliver WShow e = cc
+word_one WShow WCall e = let first : false ≡ true = ap (λ (xs : List ℕ). eqb (get_or xs 0 0) 99) e in absurd (cc)
+word_one WShow WDeliver e = cc
+word_one WShow WShow e = refl
+
+call_one : (fields c r t o c2 r2 t2 o2 : List ℕ) → IsCallFields fields c r t o → IsCallFields fields c2 r2 t2 o2 → (c ≡ c2) × (r ≡ r2) × (t ≡ t2) × (o ≡ o2)
+call_one fields c r t o c2 r2 t2 o2 a b =
+    let first = field_one c c2 (r ++ 32 ∷ (t ++ 32 ∷ o)) (r2 ++ 32 ∷ (t2 ++ 32 ∷ o2)) (sym a.text ∙ b.text) a.client_field b.client_field in
+    let second = field_one r r2 (t ++ 32 ∷ o) (t2 ++ 32 ∷ o2) first.1 a.replica_field b.replica_field in
+    let third = field_one t t2 o o2 second.1 a.reading_field b.reading_field in
+    (first.0, second.0, third.0, third.1)
+
+-- the fields of a call's line are those of its numbers and its operation
+numbers_fields : (fields op : List ℕ) (client replica reading : ℕ) → client < 2 ^ 64 → replica < 2 ^ 64 → reading < 2 ^ 64 → fields ≡ four_fields (decimal client) (decimal replica) (decimal reading) op → IsCallFields fields (decimal client) (decimal replica) (decimal reading) op
+numbers_fields fields op client replica reading hc hr ht e = record {
+    text = e;
+    client_field = number_spaceless client hc;
+    replica_field = number_spaceless replica hr;
+    reading_field = number_spaceless reading ht;
+  }
+
+call_spaces : (fields c r t o : List ℕ) → IsCallFields fields c r t o → 3 ≤ spaces fields
+call_spaces fields c r t o a =
+    let first = spaces_behind fields c (r ++ 32 ∷ (t ++ 32 ∷ o)) a.text a.client_field in
+    let second = spaces_behind (r ++ 32 ∷ (t ++ 32 ∷ o)) r (t ++ 32 ∷ o) refl a.replica_field in
+    let third = spaces_behind (t ++ 32 ∷ o) t o refl a.reading_field in
+    omega arith
+
+call_refuted : {Value Op : Type 0} (m : Meaning Value Op) (config : Config) → IsSetUp config → (fields : List ℕ) (client replica reading : ℕ) (op : Op) → Fits m config (Call client replica reading op) → fields ≡ four_fields (decimal client) (decimal replica) (decimal reading) (m.text op) → (cause : Cause) → IsBadCall m config fields cause → ⊥
+call_refuted m config set fields client replica reading op fits e Fields h =
+    let cut = numbers_fields fields (m.text op) client replica reading (omega (arith, fits.0)) (omega (arith, fits.1)) fits.2 e in
+    let many = call_spaces fields _ _ _ _ cut in
+    omega (arith, h)
+call_refuted m config set fields client replica reading op fits e Number h =
+    let cut = numbers_fields fields (m.text op) client replica reading (omega (arith, fits.0)) (omega (arith, fits.1)) fits.2 e in
+    let one = call_one fields h.client h.replica h.reading h.op _ _ _ _ h.split cut in
+    elim h.bad [ inl bad ↦ bad client (omega (arith, fits.0)) one.0 | inr more ↦ elim more [ inl bad ↦ bad replica (omega (arith, fits.1)) one.1 | inr bad ↦ bad reading fits.2 one.2 ] ]
+call_refuted m config set fields client replica reading op fits e Range h =
+    let cut = numbers_fields fields (m.text op) client replica reading (omega (arith, fits.0)) (omega (arith, fits.1)) fits.2 e in
+    let other = numbers_fields fields h.op h.client h.replica h.reading h.client_number h.replica_number h.reading_number h.text in
+    let one = call_one fields _ _ _ _ _ _ _ _ other cut in
+    let same_client = decimal_injective h.client client h.client_number (omega (arith, fits.0)) one.0 in
+    let same_replica = decimal_injective h.replica replica h.replica_number (omega (arith, fits.1)) one.1 in
+    elim h.bad [ inl bad ↦ omega (arith, fits.0) | inr bad ↦ omega (arith, fits.1) ]
+call_refuted m config set fields client replica reading op fits e NoOp h =
+    let cut = numbers_fields fields (m.text op) client replica reading (omega (arith, fits.0)) (omega (arith, fits.1)) fits.2 e in
+    let other = numbers_fields fields h.op h.client h.replica h.reading (omega arith) (omega arith) h.reading_number h.text in
+    let one = call_one fields _ _ _ _ _ _ _ _ other cut in
+    h.bad op fits.3 (sym one.3)
+call_refuted m config set fields client replica reading op fits e _ h = h
+
+deliver_refuted : (fields : List ℕ) (message : ℕ) → message < 2 ^ 64 → fields ≡ decimal message → (cause : Cause) → IsBadDeliver fields cause → ⊥
+deliver_refuted fields message fits e Fields h = let none : spaces fields ≡ 0 = ap spaces e ∙ number_spaceless message fits in omega (arith, h)
+deliver_refuted fields message fits e Number h = h.1 message fits e
+deliver_refuted fields message fits e _ h = h
+
+show_refuted : (config : Config) → IsSetUp config → (fields : List ℕ) (replica : ℕ) → replica < config.replicas → fields ≡ decimal replica → (cause : Cause) → IsBadShow config fields cause → ⊥
+show_refuted config set fields replica fits e Fields h = let none : spaces fields ≡ 0 = ap spaces e ∙ number_spaceless replica (omega arith) in omega (arith, h)
+show_refuted config set fields replica fits e Number h = h.1 replica (omega arith) e
+show_refuted config set fields replica fits e Range h =
+    let same : h.0 ≡ replica = decimal_injective h.0 replica h.2 (omega arith) (sym h.1 ∙ e) in
+    omega (arith, h.3)
+show_refuted config set fields replica fits e _ h = h
+
+fields_refuted : {Value Op : Type 0} (m : Meaning Value Op) (config : Config) → IsSetUp config → (word : Word) (event : Event Op) → word ≡ event_word event → Fits m config event → (fields : List ℕ) → fields ≡ event_rest m event → (cause : Cause) → IsBadFields m config word fields cause → ⊥
+unfolding event_word event_rest
+fields_refuted m config set WCall (Call client replica reading op) same fits fields e cause h = call_refuted m config set fields client replica reading op fits e cause h
+fields_refuted m config set WDeliver (Call client replica reading op) same fits fields e cause h = cc
+fields_refuted m config set WShow (Call client replica reading op) same fits fields e cause h = cc
+fields_refuted m config set WCall (Deliver message) same fits fields e cause h = cc
+fields_refuted m config set WDeliver (Deliver message) same fits fields e cause h = deliver_refuted fields message fits e cause h
+fields_refuted m config set WShow (Deliver message) same fits fields e cause h = cc
+fields_refuted m config set WCall (Show replica) same fits fields e cause h = cc
+fields_refuted m config set WDeliver (Show replica) same fits fields e cause h = cc
+fields_refuted m config set WShow (Show replica) same fits fields e cause h = show_refuted config set fields replica fits e cause h
+
+-- an event's text is not refused
+pub event_refuted : {Value Op : Type 0} (m : Meaning Value Op) (config : Config) → IsSetUp config → (event : Event Op) → Fits m config event → (line : List ℕ) → line ≡ event_text m event → (cause : Cause) → IsBadEvent m config line cause → ⊥
+event_refuted m config set event fits line e cause (no_word alone before) = before (event_word event) (event_rest m event) (e ∙ event_parts m event)
+event_refuted m config set event fits line e cause (word_alone word is) =
+    let none : spaces line ≡ 0 = ap spaces is ∙ word_spaces word in
+    let some = spaces_behind line (word_text (event_word event)) (event_rest m event) (e ∙ event_parts m event) (word_spaces (event_word event)) in
+    omega arith
+event_refuted m config set event fits line e cause (bad_rest word rest why is bad) =
+    let cut = field_one (word_text word) (word_text (event_word event)) rest (event_rest m event) (sym is ∙ e ∙ event_parts m event) (word_spaces word) (word_spaces (event_word event)) in
+    fields_refuted m config set word event (word_one word (event_word event) cut.0) fits rest cut.1 why bad
+
+printable_cut : (f g r s : List ℕ) → f ++ 10 ∷ r ≡ g ++ 10 ∷ s → is_printable f ≡ true → is_printable g ≡ true → (f ≡ g) × (r ≡ s)
+printable_cut f g r s e hf hg = cut_one (λ byte. leb 32 byte && leb byte 126) 10 refl f g r s e hf hg
+
+-- an event's line is not refused
+pub line_refuted : {Value Op : Type 0} (m : Meaning Value Op) → ArePrintable m → (config : Config) → IsSetUp config → (event : Event Op) → Fits m config event → (bytes later : List ℕ) → bytes ≡ event_text m event ++ 10 ∷ later → (cause : Cause) → IsBadLine m config bytes cause → ⊥
+line_refuted m ops config set event fits bytes later e cause (no_line why bad) = no_line_refuted bytes (event_text m event) later why e (event_printable m ops config set event fits) bad
+line_refuted m ops config set event fits bytes later e cause (no_event line other why is printable bad) =
+    let cut = printable_cut line (event_text m event) other later (sym is ∙ e) printable (event_printable m ops config set event fits) in
+    event_refuted m config set event fits line cut.0 why bad
+
+-- each element of a list is one of the first and each of the others
+all_first : {X : Type 0} (P : X → Type 0) (x : X) (xs : List X) → All P (x ∷ xs) → P x
+all_first P x xs h = h 0 x (omega arith)
+
+all_others : {X : Type 0} (P : X → Type 0) (x : X) (xs : List X) → All P (x ∷ xs) → All P xs
+all_others P x xs h = λ k d below. h (suc k) d (omega arith)
+
+line_more : (line more rest : List ℕ) → ((line ++ 10 ∷ []) ++ more) ++ rest ≡ line ++ 10 ∷ (more ++ rest)
+line_more line more rest = simp append_assoc
+
+never_empty : (line more : List ℕ) → [] ≢ line ++ 10 ∷ more
+never_empty [] more e = cc
+never_empty (x ∷ line) more e = cc
+
+-- lines of events that go on with a refused one are no other events' lines
+pub lines_refuted : {Value Op : Type 0} (m : Meaning Value Op) → ArePrintable m → (config : Config) → IsSetUp config → (events others : List (Event Op)) (rest : List ℕ) → All (Fits m config) events → All (Fits m config) others → events_text m others ≡ events_text m events ++ rest → 1 ≤ length rest → (cause : Cause) → IsBadLine m config rest cause → ⊥
+lines_refuted m ops config set [] [] rest fit fits e some cause bad = let none : length rest ≡ 0 = ap length (sym e) in omega arith
+lines_refuted m ops config set [] (o ∷ others) rest fit fits e some cause bad =
+    line_refuted m ops config set o (all_first (Fits m config) o others fits) rest (events_text m others) (sym e ∙ append_assoc (event_text m o) (10 ∷ []) (events_text m others)) cause bad
+lines_refuted m ops config set (x ∷ events) [] rest fit fits e some cause bad = never_empty (event_text m x) (events_text m events ++ rest) (e ∙ line_more (event_text m x) (events_text m events) rest)
+lines_refuted m ops config set (x ∷ events) (o ∷ others) rest fit fits e some cause bad =
+    let cut = printable_cut (event_text m o) (event_text m x) (events_text m others) (events_text m events ++ rest) (sym (append_assoc (event_text m o) (10 ∷ []) (events_text m others)) ∙ e ∙ line_more (event_text m x) (events_text m events) rest) (event_printable m ops config set o (all_first (Fits m config) o others fits)) (event_printable m ops config set x (all_first (Fits m config) x events fit)) in
+    lines_refuted m ops config set events others rest (all_others (Fits m config) x events fit) (all_others (Fits m config) o others fits) cut.1 some cause bad
+
+same_config : (a b : Config) → a.replicas ≡ b.replicas → a.clients ≡ b.clients → a.delta ≡ b.delta → a ≡ b
+same_config a b r c d = λ i. record { replicas = r i; clients = c i; delta = d i }
+
+same_header : (a b : Header) → a.service ≡ b.service → a.config ≡ b.config → a ≡ b
+same_header a b s c = λ i. record { service = s i; config = c i }
+
+service_is : (name : Name) → name ≡ Tally
+service_is Tally = refl
+
+config_fields : (config : Config) → IsSetUp config → IsConfigFields (config_text config) (decimal config.replicas) (decimal config.clients) (decimal config.delta)
+config_fields config set = record {
+    text = refl;
+    replicas_field = number_spaceless config.replicas (omega arith);
+    clients_field = number_spaceless config.clients (omega arith);
+  }
+
+-- a header's line is one header's
+pub header_one : (a b : Header) → IsSetUp a.config → IsSetUp b.config → header_text a ≡ header_text b → a ≡ b
+header_one a b set other e =
+    let behind : service_text a.service ++ 32 ∷ config_text a.config ≡ service_text b.service ++ 32 ∷ config_text b.config = ap (drop 10) e in
+    let cut = field_one (service_text a.service) (service_text b.service) (config_text a.config) (config_text b.config) behind (service_spaceless a.service) (service_spaceless b.service) in
+    let one = config_one (config_text a.config) (decimal a.config.replicas) (decimal a.config.clients) (decimal a.config.delta) b.config (config_fields a.config set) other cut.1 in
+    same_header a b (service_is a.service ∙ sym (service_is b.service)) (same_config a.config b.config
+    (decimal_injective a.config.replicas b.config.replicas (omega arith) (omega arith) one.0)
+    (decimal_injective a.config.clients b.config.clients (omega arith) (omega arith) one.1)
+    (decimal_injective a.config.delta b.config.delta set.number other.number one.2))
+
+-- bytes that begin with a header's line begin with no other's
+pub head_one : (bytes : List ℕ) (a b : Header) (more rest : List ℕ) → IsSetUp a.config → IsSetUp b.config → bytes ≡ line_of (header_text a) ++ more → bytes ≡ line_of (header_text b) ++ rest → (a ≡ b) × (more ≡ rest)
+head_one bytes a b more rest set other ea eb =
+    let cut = printable_cut (header_text a) (header_text b) more rest (sym (append_assoc (header_text a) (10 ∷ []) more) ∙ sym ea ∙ eb ∙ append_assoc (header_text b) (10 ∷ []) rest) (header_printable a set) (header_printable b other) in
+    (header_one a b set other cut.0, cut.1)
+
+head_refuted : {Value Op : Type 0} (m : Meaning Value Op) (bytes : List ℕ) (header : Header) (events : List (Event Op)) → IsScript m header events bytes → (line : ℕ) (cause : Cause) → IsBadHead bytes line cause → ⊥
+head_refuted m bytes header events is line cause (too_long h) = let short = is.short in omega arith
+head_refuted m bytes header events is line cause (empty e) = never_empty (header_text header) (events_text m events) (sym e ∙ is.text ∙ append_assoc (header_text header) (10 ∷ []) (events_text m events))
+head_refuted m bytes header events is line cause (bad_head why short some bad) =
+    no_line_refuted bytes (header_text header) (events_text m events) why (is.text ∙ append_assoc (header_text header) (10 ∷ []) (events_text m events)) (header_printable header is.valid) bad
+head_refuted m bytes header events is line cause (no_header text later short e printable none) =
+    let cut = printable_cut text (header_text header) later (events_text m events) (sym e ∙ is.text ∙ append_assoc (header_text header) (10 ∷ []) (events_text m events)) printable (header_printable header is.valid) in
+    none header is.valid cut.0
+
+at_refuted : {Value Op : Type 0} (m : Meaning Value Op) → ArePrintable m → (bytes : List ℕ) (header : Header) (events : List (Event Op)) → IsScript m header events bytes → (line : ℕ) (cause : Cause) → IsBadAt m bytes line cause → ⊥
+at_refuted {Value} {Op} m ops bytes header events is line cause at =
+    let one = head_one bytes at.header header at.lines (events_text m events) at.valid is.valid at.text is.text in
+    let P : Header → Type 0 = λ it. All (Fits m it.config) events in
+    let fits : All (Fits m at.header.config) events = subst P (sym one.0) is.fit in
+    lines_refuted m ops at.header.config at.valid at.bad.events events at.bad.rest at.bad.fit fits (sym one.1 ∙ at.bad.text) at.bad.some cause at.bad.bad
+
+-- bytes that are refused are no script
+pub refused : {Value Op : Type 0} (m : Meaning Value Op) → ArePrintable m → (bytes : List ℕ) (fault : ScriptFault) → IsScriptFault m bytes fault → IsRefused m bytes fault
+refused m ops bytes (Line line cause) (inl bad) = λ header events is. head_refuted m bytes header events is line cause bad
+refused m ops bytes (Line line cause) (inr bad) = λ header events is. at_refuted m ops bytes header events is line cause bad
+refused m ops bytes NoMemory h = h
+
+-- a script has the header that its bytes begin with
+pub script_header : {Value Op : Type 0} (m : Meaning Value Op) (header other : Header) (events : List (Event Op)) (bytes : List ℕ) → IsScript m header events bytes → HasHeader other bytes → IsScript m other events bytes
+script_header m header other events bytes is has =
+    let one = head_one bytes header other (events_text m events) has.rest is.valid has.valid is.text has.text in
+    let P : Header → Type 0 = λ it. IsScript m it events bytes in
+    subst P one.0 is
+
+-- what was read behind a header is a script with any header that the bytes begin with
+pub script_read : {Value Op : Type 0} (m : Meaning Value Op) (bytes lines : List ℕ) (header other : Header) (result : Result (List (Event Op)) ScriptFault) → IsSetUp header.config → length bytes ≤ 8388608 → bytes ≡ line_of (header_text header) ++ lines → IfOk result (All (Fits m header.config)) → IfOk result (λ events. lines ≡ events_text m events) → HasHeader other bytes → IfOk result (λ events. IsScript m other events bytes)
+script_read m bytes lines header other (Ok events) set short e fit text has =
+    script_header m header other events bytes (record { valid = set; fit = fit; short = short; text = e ∙ ap (λ more. line_of (header_text header) ++ more) text; }) has
+script_read m bytes lines header other (Err fault) set short e fit text has = tt
+
+head_fault : {Value Op : Type 0} (m : Meaning Value Op) (bytes : List ℕ) (fault : ScriptFault) → IsHeadFault bytes fault → IsScriptFault m bytes fault
+head_fault m bytes (Line line cause) h = inl h
+head_fault m bytes NoMemory h = h
+
+lines_fault : {Value Op : Type 0} (m : Meaning Value Op) (bytes lines : List ℕ) (header : Header) → IsSetUp header.config → length bytes ≤ 8388608 → bytes ≡ line_of (header_text header) ++ lines → (fault : ScriptFault) → IsLineFault m header.config lines fault → IsScriptFault m bytes fault
+lines_fault m bytes lines header set short e (Line line cause) h = inr (record { header = header; lines = lines; text = e; valid = set; short = short; bad = h; })
+lines_fault m bytes lines header set short e NoMemory h = h
+
+pub head_refused : {Value Op : Type 0} (m : Meaning Value Op) → ArePrintable m → (bytes : List ℕ) (fault : ScriptFault) → IsHeadFault bytes fault → IsRefused m bytes fault
+head_refused m ops bytes fault h = refused m ops bytes fault (head_fault m bytes fault h)
+
+pub lines_refused : {Value Op : Type 0} (m : Meaning Value Op) → ArePrintable m → (bytes lines : List ℕ) (header : Header) → IsSetUp header.config → length bytes ≤ 8388608 → bytes ≡ line_of (header_text header) ++ lines → {T : Type 0} (result : Result T ScriptFault) → IfErr result (IsLineFault m header.config lines) → IfErr result (IsRefused m bytes)
+lines_refused m ops bytes lines header set short e (Ok value) h = h
+lines_refused m ops bytes lines header set short e (Err fault) h = refused m ops bytes fault (lines_fault m bytes lines header set short e fault h)
