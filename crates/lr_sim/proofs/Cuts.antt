@@ -1,8 +1,7 @@
 -- A line has one first field, and a script's bytes have one first line.
-use Rattle.std.proofs.Common.{◌≡◌, ◌≢◌, ℕ, suc, ◌+◌, ◌*◌, ◌/◌, ◌%◌, ◌<◌, ◌≤◌, ◌^◌, Bool, true, false, not, cond, ◌&&◌, eqb, List, [], ◌∷◌, ◌++◌, Option, Some, None, refl, sym, ◌∙◌, ap, arith}
+use Rattle.std.proofs.Common.{◌≡◌, ◌≢◌, ℕ, ◌+◌, ◌%◌, ◌<◌, ◌≤◌, ◌^◌, Bool, true, false, not, cond, ◌&&◌, eqb, List, [], ◌∷◌, ◌++◌, Option, Some, None, refl, sym, ◌∙◌, ap, arith}
 use Rattle.std.specs.Borrow.{Bor}
 use Rattle.std.specs.List.{list_all}
-use Rattle.std.proofs.lemmas.List.Folds.{list_all-append}
 use Rattle.std.specs.Fmt.{decimal}
 use Rattle.std.proofs.lemmas.Bool.Decides.{nat_tests}
 use Rattle.std.proofs.lemmas.Fmt.{decimal_by_steps}
@@ -121,4 +120,3 @@ config_spaces fields config set e =
     let first = spaces_behind fields (decimal config.replicas) (decimal config.clients ++ 32 ∷ decimal config.delta) e (number_spaceless config.replicas (omega arith)) in
     let second = spaces_behind (decimal config.clients ++ 32 ∷ decimal config.delta) (decimal config.clients) (decimal config.delta) refl (number_spaceless config.clients (omega arith)) in
     omega arith
-

@@ -1,5 +1,5 @@
 -- The texts of headers and events are printable, and no line that was refused is one of them.
-use Rattle.std.proofs.Common.{◌≡◌, ◌≢◌, ℕ, suc, get_or, drop, append_assoc, subst, ◌+◌, ◌*◌, ◌/◌, ◌%◌, ◌<◌, ◌≤◌, ◌^◌, Bool, true, false, not, cond, ◌&&◌, ◌||◌, eqb, leb, List, [], ◌∷◌, ◌++◌, length, Option, Some, None, refl, sym, ◌∙◌, ap, arith, inl, inr, ◌⊎◌, Result, Ok, Err}
+use Rattle.std.proofs.Common.{◌≡◌, ◌≢◌, ℕ, suc, get_or, drop, append_assoc, subst, ◌+◌, ◌%◌, ◌<◌, ◌≤◌, ◌^◌, Bool, true, false, ◌&&◌, ◌||◌, eqb, leb, List, [], ◌∷◌, ◌++◌, length, refl, sym, ◌∙◌, ap, arith, inl, inr, Result, Ok, Err}
 use Rattle.std.specs.Prelude.{IfOk, IfErr}
 use Rattle.std.specs.List.{All, list_all, list_any}
 use Rattle.std.specs.Fmt.{decimal}
@@ -11,7 +11,7 @@ use Rattle.lr_base.specs.declared.events.Event.{Event}
 use Rattle.lr_base.specs.declared.events.Event.TheVariants.{Call, Deliver, Show}
 use Rattle.lr_base.specs.declared.names.Config.{Config}
 use Rattle.lr_sim.specs.declared.script.Cause.{Cause}
-use Rattle.lr_sim.specs.declared.script.Cause.TheVariants.{TooLong, Unended, Byte, Header as NoHeader, Event as NoWord, Fields, Number, Range, Op as NoOp}
+use Rattle.lr_sim.specs.declared.script.Cause.TheVariants.{Unended, Byte, Fields, Number, Range, Op as NoOp}
 use Rattle.lr_sim.specs.declared.script.Header.{Header}
 use Rattle.lr_sim.specs.declared.script.Name.{Name}
 use Rattle.lr_sim.specs.declared.script.Name.TheVariants.{Tally}
@@ -19,11 +19,11 @@ use Rattle.lr_sim.specs.declared.script.ScriptFault.{ScriptFault}
 use Rattle.lr_sim.specs.declared.script.ScriptFault.TheVariants.{Line, NoMemory}
 use Rattle.lr_sim.specs.declared.script.fields.Word.{Word}
 use Rattle.lr_sim.specs.declared.script.fields.Word.TheVariants.{Call as WCall, Deliver as WDeliver, Show as WShow}
-use Rattle.lr_sim.specs.Fields.{spaces, word_text, four_fields, IsCallFields, IsConfigFields, IsNoNumber}
-use Rattle.lr_sim.specs.Script.{Fits, IsSetUp, IsScript, IsNoScript, HasHeader, line_of, events_text}
+use Rattle.lr_sim.specs.Fields.{spaces, word_text, four_fields, IsCallFields, IsConfigFields}
+use Rattle.lr_sim.specs.Script.{Fits, IsSetUp, IsScript, HasHeader, line_of, events_text}
 use Rattle.lr_sim.specs.Texts.{event_text, header_text, config_text, service_text}
-use Rattle.lr_sim.specs.Faults.{IsNoLine, HasBadByte, HasNoNumber, IsOutOfRange, HasNoOp, IsBadCall, IsBadDeliver, IsBadShow, IsBadFields, IsBadEvent, no_word, word_alone, bad_rest, IsBadLine, no_line, no_event, IsBadHead, too_long, empty, bad_head, no_header, IsBadAt, IsHeadFault, IsLineFault, IsScriptFault, IsRefused}
-use Rattle.lr_sim.proofs.Splits.{spaces-append, spaces_behind}
+use Rattle.lr_sim.specs.Faults.{IsNoLine, IsBadCall, IsBadDeliver, IsBadShow, IsBadFields, IsBadEvent, no_word, word_alone, bad_rest, IsBadLine, no_line, no_event, IsBadHead, too_long, empty, bad_head, no_header, IsBadAt, IsHeadFault, IsLineFault, IsScriptFault, IsRefused}
+use Rattle.lr_sim.proofs.Splits.{spaces_behind}
 use Rattle.lr_sim.proofs.Cuts.{all_head, all_tail, cut_one, field_one, number_spaceless, config_one, service_spaceless}
 
 both : (a b : Bool) → a ≡ true → b ≡ true → (a && b) ≡ true
@@ -141,11 +141,11 @@ call_one fields c r t o c2 r2 t2 o2 a b =
 -- the fields of a call's line are those of its numbers and its operation
 numbers_fields : (fields op : List ℕ) (client replica reading : ℕ) → client < 2 ^ 64 → replica < 2 ^ 64 → reading < 2 ^ 64 → fields ≡ four_fields (decimal client) (decimal replica) (decimal reading) op → IsCallFields fields (decimal client) (decimal replica) (decimal reading) op
 numbers_fields fields op client replica reading hc hr ht e = record {
-    text = e;
-    client_field = number_spaceless client hc;
-    replica_field = number_spaceless replica hr;
-    reading_field = number_spaceless reading ht;
-  }
+  text = e;
+  client_field = number_spaceless client hc;
+  replica_field = number_spaceless replica hr;
+  reading_field = number_spaceless reading ht;
+}
 
 call_spaces : (fields c r t o : List ℕ) → IsCallFields fields c r t o → 3 ≤ spaces fields
 call_spaces fields c r t o a =
@@ -258,10 +258,10 @@ service_is Tally = refl
 
 config_fields : (config : Config) → IsSetUp config → IsConfigFields (config_text config) (decimal config.replicas) (decimal config.clients) (decimal config.delta)
 config_fields config set = record {
-    text = refl;
-    replicas_field = number_spaceless config.replicas (omega arith);
-    clients_field = number_spaceless config.clients (omega arith);
-  }
+  text = refl;
+  replicas_field = number_spaceless config.replicas (omega arith);
+  clients_field = number_spaceless config.clients (omega arith);
+}
 
 -- a header's line is one header's
 pub header_one : (a b : Header) → IsSetUp a.config → IsSetUp b.config → header_text a ≡ header_text b → a ≡ b
@@ -312,7 +312,7 @@ script_header m header other events bytes is has =
 -- what was read behind a header is a script with any header that the bytes begin with
 pub script_read : {Value Op : Type 0} (m : Meaning Value Op) (bytes lines : List ℕ) (header other : Header) (result : Result (List (Event Op)) ScriptFault) → IsSetUp header.config → length bytes ≤ 8388608 → bytes ≡ line_of (header_text header) ++ lines → IfOk result (All (Fits m header.config)) → IfOk result (λ events. lines ≡ events_text m events) → HasHeader other bytes → IfOk result (λ events. IsScript m other events bytes)
 script_read m bytes lines header other (Ok events) set short e fit text has =
-    script_header m header other events bytes (record { valid = set; fit = fit; short = short; text = e ∙ ap (λ more. line_of (header_text header) ++ more) text; }) has
+    script_header m header other events bytes (record { valid = set; fit = fit; short = short; text = e ∙ ap (λ more. line_of (header_text header) ++ more) text }) has
 script_read m bytes lines header other (Err fault) set short e fit text has = tt
 
 head_fault : {Value Op : Type 0} (m : Meaning Value Op) (bytes : List ℕ) (fault : ScriptFault) → IsHeadFault bytes fault → IsScriptFault m bytes fault
@@ -320,7 +320,7 @@ head_fault m bytes (Line line cause) h = inl h
 head_fault m bytes NoMemory h = h
 
 lines_fault : {Value Op : Type 0} (m : Meaning Value Op) (bytes lines : List ℕ) (header : Header) → IsSetUp header.config → length bytes ≤ 8388608 → bytes ≡ line_of (header_text header) ++ lines → (fault : ScriptFault) → IsLineFault m header.config lines fault → IsScriptFault m bytes fault
-lines_fault m bytes lines header set short e (Line line cause) h = inr (record { header = header; lines = lines; text = e; valid = set; short = short; bad = h; })
+lines_fault m bytes lines header set short e (Line line cause) h = inr (record { header = header; lines = lines; text = e; valid = set; short = short; bad = h })
 lines_fault m bytes lines header set short e NoMemory h = h
 
 pub head_refused : {Value Op : Type 0} (m : Meaning Value Op) → ArePrintable m → (bytes : List ℕ) (fault : ScriptFault) → IsHeadFault bytes fault → IsRefused m bytes fault

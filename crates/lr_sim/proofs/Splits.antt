@@ -1,7 +1,7 @@
 -- A list that is cut at the first element that passes a test.
-use Rattle.std.proofs.Common.{◌≡◌, ◌≢◌, ℕ, suc, ◌+◌, ◌-◌, ◌<◌, ◌≤◌, Bool, true, false, not, cond, ◌&&◌, eqb, ltb, List, [], ◌∷◌, ◌++◌, length, get_or, take, drop, Option, Some, None, refl, sym, ◌∙◌, ap, add-one, arith, drop-cons}
-use Rattle.std.specs.List.{list_all, position, position_or_len, AllPass, prefix_len}
-use Rattle.std.proofs.lemmas.List.{take-append-drop, take_rest, get_or-take, length-take-le, take_all}
+use Rattle.std.proofs.Common.{◌≡◌, ℕ, suc, ◌+◌, ◌-◌, ◌<◌, ◌≤◌, Bool, true, false, not, cond, ◌&&◌, eqb, ltb, List, [], ◌∷◌, ◌++◌, length, get_or, take, drop, Some, None, refl, sym, ◌∙◌, ap, add-one, arith, drop-cons}
+use Rattle.std.specs.List.{list_all, position, prefix_len}
+use Rattle.std.proofs.lemmas.List.{take-append-drop, take_rest, get_or-take, length-take-le}
 use Rattle.std.proofs.lemmas.List.Quantifiers.{position-Some}
 use Rattle.std.proofs.lemmas.List.Sums.{list_all-from_AllPass}
 use Rattle.std.proofs.lemmas.Bool.Decides.{nat_tests}

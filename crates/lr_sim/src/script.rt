@@ -8,9 +8,8 @@ mod reading;
 mod tests;
 
 pub use event_lines::print_event;
-pub use reading::{read_header, read_script};
-
 use lr_base::Config;
+pub use reading::{read_header, read_script};
 use thiserror::Error;
 
 /// A service that a script may name.

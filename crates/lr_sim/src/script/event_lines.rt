@@ -7,7 +7,6 @@ ghost use Rattle.lr_sim.specs.Script.{Fits};
 ghost use Rattle.lr_sim.specs.Texts.{event_text};
 
 use crate::script::fields::{Word, is_one_field, split_field, word_of};
-
 use crate::script::{Cause, ScriptFault};
 use lr_base::lr_service::{OpFault, Service};
 use lr_base::{Config, Event, NoMemory, Text, read_number};
@@ -34,10 +33,16 @@ pub fn read_event<S: Service>(
 {
     let (word, fields) = split_field(text);
     let Some(word) = word_of(word) else {
-        return Err(ScriptFault::Line { line, cause: Cause::Event });
+        return Err(ScriptFault::Line {
+            line,
+            cause: Cause::Event,
+        });
     };
     let Some(fields) = fields else {
-        return Err(ScriptFault::Line { line, cause: Cause::Fields });
+        return Err(ScriptFault::Line {
+            line,
+            cause: Cause::Fields,
+        });
     };
     match word {
         Word::Call => read_call::<S>(alloc, config, line, fields),
@@ -54,7 +59,12 @@ fn call_fields(fields: &[u8]) -> Option<CallFields<'_>>
     let (replica, fields) = split_field(fields?);
     let (reading, op) = split_field(fields?);
     let op = op?;
-    Some(CallFields { client, replica, reading, op })
+    Some(CallFields {
+        client,
+        replica,
+        reading,
+        op,
+    })
 }
 
 fn read_call<S: Service>(
@@ -68,23 +78,46 @@ fn read_call<S: Service>(
     ensures err { IfErr result (IsFaultAt line (IsBadCall S.meaning config fields.now)) }
 {
     let Some(fields) = call_fields(fields) else {
-        return Err(ScriptFault::Line { line, cause: Cause::Fields });
+        return Err(ScriptFault::Line {
+            line,
+            cause: Cause::Fields,
+        });
     };
-    let CallFields { client, replica, reading, op } = fields;
+    let CallFields {
+        client,
+        replica,
+        reading,
+        op,
+    } = fields;
     let Some(client) = read_number(client) else {
-        return Err(ScriptFault::Line { line, cause: Cause::Number });
+        return Err(ScriptFault::Line {
+            line,
+            cause: Cause::Number,
+        });
     };
     let Some(replica) = read_number(replica) else {
-        return Err(ScriptFault::Line { line, cause: Cause::Number });
+        return Err(ScriptFault::Line {
+            line,
+            cause: Cause::Number,
+        });
     };
     let Some(reading) = read_number(reading) else {
-        return Err(ScriptFault::Line { line, cause: Cause::Number });
+        return Err(ScriptFault::Line {
+            line,
+            cause: Cause::Number,
+        });
     };
     if config.clients as u64 <= client {
-        return Err(ScriptFault::Line { line, cause: Cause::Range });
+        return Err(ScriptFault::Line {
+            line,
+            cause: Cause::Range,
+        });
     }
     if config.replicas as u64 <= replica {
-        return Err(ScriptFault::Line { line, cause: Cause::Range });
+        return Err(ScriptFault::Line {
+            line,
+            cause: Cause::Range,
+        });
     }
     match S::read_op(alloc, op) {
         Ok(op) => Ok(Event::Call {
@@ -93,7 +126,10 @@ fn read_call<S: Service>(
             reading,
             op,
         }),
-        Err(OpFault::NotAnOp) => Err(ScriptFault::Line { line, cause: Cause::Op }),
+        Err(OpFault::NotAnOp) => Err(ScriptFault::Line {
+            line,
+            cause: Cause::Op,
+        }),
         Err(OpFault::NoMemory) => Err(ScriptFault::NoMemory),
     }
 }
@@ -108,10 +144,16 @@ fn read_deliver<S: Service>(
     ensures err { IfErr result (IsFaultAt line (IsBadDeliver fields.now)) }
 {
     if !is_one_field(fields) {
-        return Err(ScriptFault::Line { line, cause: Cause::Fields });
+        return Err(ScriptFault::Line {
+            line,
+            cause: Cause::Fields,
+        });
     }
     let Some(message) = read_number(fields) else {
-        return Err(ScriptFault::Line { line, cause: Cause::Number });
+        return Err(ScriptFault::Line {
+            line,
+            cause: Cause::Number,
+        });
     };
     Ok(Event::Deliver { message })
 }
@@ -126,15 +168,26 @@ fn read_show<S: Service>(
     ensures err { IfErr result (IsFaultAt line (IsBadShow config fields.now)) }
 {
     if !is_one_field(fields) {
-        return Err(ScriptFault::Line { line, cause: Cause::Fields });
+        return Err(ScriptFault::Line {
+            line,
+            cause: Cause::Fields,
+        });
     }
     let Some(replica) = read_number(fields) else {
-        return Err(ScriptFault::Line { line, cause: Cause::Number });
+        return Err(ScriptFault::Line {
+            line,
+            cause: Cause::Number,
+        });
     };
     if config.replicas as u64 <= replica {
-        return Err(ScriptFault::Line { line, cause: Cause::Range });
+        return Err(ScriptFault::Line {
+            line,
+            cause: Cause::Range,
+        });
     }
-    Ok(Event::Show { replica: replica as u8 })
+    Ok(Event::Show {
+        replica: replica as u8,
+    })
 }
 
 /// Adds the event's line behind `out`, without its LF.
@@ -142,7 +195,12 @@ pub fn print_event<S: Service>(event: &Event<S::Op>, out: &mut Text) -> Result<(
     ensures { OnOk result (out.new ≡ out.old ++ event_text S.meaning event.now) }
 {
     match event {
-        Event::Call { client, replica, reading, op } => {
+        Event::Call {
+            client,
+            replica,
+            reading,
+            op,
+        } => {
             let client = *client;
             let replica = *replica;
             let reading = *reading;

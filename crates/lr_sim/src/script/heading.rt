@@ -8,12 +8,12 @@ ghost use Rattle.lr_sim.specs.Script.{IsSetUp};
 ghost use Rattle.lr_sim.specs.Texts.{header_text, service_text, config_text};
 
 use crate::script::fields::split_field;
-
 use crate::script::{Header, Name};
 use lr_base::{Config, read_number};
 
 // How many replicas a script may ask for, and how many clients at most.
 const REPLICAS: u64 = 1;
+
 const MOST_CLIENTS: u64 = 64;
 
 // The header that a line is.
@@ -54,7 +54,11 @@ fn config_fields(fields: &[u8]) -> Option<ConfigFields<'_>>
     let (replicas, fields) = split_field(fields);
     let (clients, delta) = split_field(fields?);
     let delta = delta?;
-    Some(ConfigFields { replicas, clients, delta })
+    Some(ConfigFields {
+        replicas,
+        clients,
+        delta,
+    })
 }
 
 fn config_of(fields: &[u8]) -> Option<Config>

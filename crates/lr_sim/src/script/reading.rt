@@ -53,15 +53,24 @@ fn split_header(bytes: &[u8]) -> Result<(Header, &[u8]), ScriptFault>
     ensures err { IfErr result (IsHeadFault bytes.now) }
 {
     if MOST_BYTES < bytes.len() {
-        return Err(ScriptFault::Line { line: 0, cause: Cause::TooLong });
+        return Err(ScriptFault::Line {
+            line: 0,
+            cause: Cause::TooLong,
+        });
     }
     if bytes.is_empty() {
-        return Err(ScriptFault::Line { line: 1, cause: Cause::Header });
+        return Err(ScriptFault::Line {
+            line: 1,
+            cause: Cause::Header,
+        });
     }
     match first_line(bytes) {
         Ok((text, lines)) => match header_of(text) {
             Some(header) => Ok((header, lines)),
-            None => Err(ScriptFault::Line { line: 1, cause: Cause::Header }),
+            None => Err(ScriptFault::Line {
+                line: 1,
+                cause: Cause::Header,
+            }),
         },
         Err(cause) => Err(ScriptFault::Line { line: 1, cause }),
     }

@@ -33,7 +33,11 @@ const BAD_HEADERS: [(&str, u64, Cause); 31] = [
     ("lazyrep 1 tally 01 1 10\n", 1, Cause::Header),
     ("lazyrep 1 tally 1 1 010\n", 1, Cause::Header),
     ("lazyrep 1 tally 1 1 +10\n", 1, Cause::Header),
-    ("lazyrep 1 tally 1 1 18446744073709551616\n", 1, Cause::Header),
+    (
+        "lazyrep 1 tally 1 1 18446744073709551616\n",
+        1,
+        Cause::Header,
+    ),
     ("lazyrep 1 tally 1 1 10 \n", 1, Cause::Header),
     (" lazyrep 1 tally 1 1 10\n", 1, Cause::Header),
     ("lazyrep  1 tally 1 1 10\n", 1, Cause::Header),
@@ -89,13 +93,21 @@ const BAD_LINES: [(&str, u64, Cause); 45] = [
     ("call 4294967296 0 5 add x 3\n", 2, Cause::Range),
     ("call 0 0 5 sub x 1\n", 2, Cause::Op),
     ("call 0 0 5 \n", 2, Cause::Op),
-    ("show 0\ndeliver 0\nshow 0\ncall 0 0 5  add x 1\nshow 1\n", 5, Cause::Op),
+    (
+        "show 0\ndeliver 0\nshow 0\ncall 0 0 5  add x 1\nshow 1\n",
+        5,
+        Cause::Op,
+    ),
 ];
 
 // (a header's line, its count of clients, the events' lines)
 const GOOD: [(&str, u32, &str); 5] = [
     ("lazyrep 1 tally 1 1 0\n", 1, ""),
-    ("lazyrep 1 tally 1 64 18446744073709551615\n", 64, "deliver 0\n"),
+    (
+        "lazyrep 1 tally 1 64 18446744073709551615\n",
+        64,
+        "deliver 0\n",
+    ),
     (
         "lazyrep 1 tally 1 64 10\n",
         64,
@@ -133,7 +145,10 @@ fn event_lines(alloc: Global, events: &[Event<TallyOp>]) -> Result<Text, NoMemor
 
 fn assert_fault(rt: &impl Abort, fault: ScriptFault, line: u64, cause: Cause, text: &str) {
     match fault {
-        ScriptFault::Line { line: found, cause: why } => {
+        ScriptFault::Line {
+            line: found,
+            cause: why,
+        } => {
             assert_eq!(rt; found, line, "in {text}");
             assert_eq!(rt; why, cause, "in {text}");
         }
@@ -182,7 +197,10 @@ fn good_scripts_are_printed_again(rt: HostRuntime) -> Result<(), Fail> {
 
 #[test]
 fn the_longest_input_is_read_as_lines(rt: HostRuntime) -> Result<(), Fail> {
-    for (length, line, cause) in [(8_388_608, 1, Cause::Unended), (8_388_609, 0, Cause::TooLong)] {
+    for (length, line, cause) in [
+        (8_388_608, 1, Cause::Unended),
+        (8_388_609, 0, Cause::TooLong),
+    ] {
         let bytes = vec![in rt.alloc(); b' '; length]?;
         match read_header(bytes.as_slice()) {
             Ok(_) => assert!(rt; false, "taken"),

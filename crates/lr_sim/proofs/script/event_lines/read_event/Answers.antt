@@ -1,4 +1,4 @@
-use Rattle.std.proofs.Common.{◌≡◌, ◌++◌, ◌∷◌, ◌∙◌, sym, refl, ap}
+use Rattle.std.proofs.Common.{◌++◌, ◌∷◌, ◌∙◌, refl, ap}
 use Rattle.lr_sim.specs.Fields.{word_text}
 use Rattle.lr_sim.specs.Faults.{IsBadEvent, no_word, word_alone, bad_rest, IsBadCall, IsBadDeliver, IsBadShow}
 use Rattle.lr_sim.specs.declared.script.fields.Word.TheVariants.{Call, Deliver, Show}

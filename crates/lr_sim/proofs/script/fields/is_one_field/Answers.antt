@@ -1,4 +1,4 @@
-use Rattle.std.proofs.Common.{◌≡◌, ◌+◌, sym, refl, arith}
+use Rattle.std.proofs.Common.{sym, refl, arith}
 use Rattle.lr_sim.proofs.Splits.{field_alone, spaces_at}
 use Rattle.lr_sim.proofs.script.fields.is_one_field.Goals as goal
 

@@ -1,4 +1,4 @@
-use Rattle.std.proofs.Common.{◌≡◌, ◌<◌, ◌^◌, ◌∙◌, sym, refl, arith}
+use Rattle.std.proofs.Common.{◌∙◌, sym, refl, arith}
 use Rattle.std.proofs.lemmas.Fmt.{decimal_injective}
 use Rattle.lr_sim.proofs.Cuts.{config_one, config_spaces}
 use Rattle.lr_sim.proofs.script.heading.config_of.Goals as goal

@@ -1,4 +1,4 @@
-use Rattle.std.proofs.Common.{◌≡◌, ◌∙◌, sym, refl, ap, drop}
+use Rattle.std.proofs.Common.{◌∙◌, refl, ap, drop}
 use Rattle.lr_sim.specs.Texts.{service_text, config_text}
 use Rattle.lr_sim.proofs.Cuts.{head_field, service_spaceless}
 use Rattle.lr_sim.proofs.script.heading.header_of.Goals as goal

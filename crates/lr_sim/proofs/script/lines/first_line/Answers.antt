@@ -1,5 +1,4 @@
-use Rattle.std.proofs.Common.{◌≡◌, ◌<◌, ◌++◌, ◌∷◌, ◌+◌, ◌-◌, length, take, drop, get_or, sym, ◌∙◌, true, false, arith}
-use Rattle.lr_sim.specs.Faults.{HasBadByte}
+use Rattle.std.proofs.Common.{◌+◌, ◌-◌, length, take, drop, get_or, sym, ◌∙◌}
 use Rattle.lr_sim.proofs.Splits.{around}
 use Rattle.lr_sim.proofs.Printables.{printable_before, printable_all, unended, unended_around, unprintable_there}
 use Rattle.lr_sim.proofs.script.lines.first_line.Goals as goal
