@@ -1,5 +1,7 @@
 pub mod Splits
 pub mod Cuts
 pub mod Printables
-pub mod EventFaults
-pub mod Lines
+pub mod FaultLemmas
+pub mod ShownTexts
+pub mod EventRefusals
+pub mod ScriptRefusals

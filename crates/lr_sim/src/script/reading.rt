@@ -6,7 +6,7 @@ ghost use Rattle.lr_sim.specs.Faults.{IsFaultAt, IsBadLine, IsHeadFault, IsLineF
 ghost use Rattle.lr_sim.specs.Script.{Fits, IsSetUp, IsScript, HasHeader, line_of, events_text};
 ghost use Rattle.lr_sim.specs.Texts.{event_text, header_text};
 
-use crate::script::event_lines::read_event;
+use crate::script::event_lines::{EventFault, read_event};
 use crate::script::heading::header_of;
 use crate::script::lines::first_line;
 use crate::script::{Cause, Header, ScriptFault};
@@ -113,9 +113,12 @@ fn next_event<S: Service>(
     ensures err { IfErr result (IsFaultAt line (IsBadLine S.meaning config lines.now)) }
 {
     match first_line(lines) {
-        Ok((text, later)) => match read_event::<S>(alloc, config, line, text) {
+        Ok((text, later)) => match read_event::<S>(alloc, config, text) {
             Ok(event) => Ok((event, later)),
-            Err(fault) => Err(fault),
+            Err(fault) => match fault {
+                EventFault::Bad(cause) => Err(ScriptFault::Line { line, cause }),
+                EventFault::NoMemory => Err(ScriptFault::NoMemory),
+            },
         },
         Err(cause) => Err(ScriptFault::Line { line, cause }),
     }

@@ -1,4 +1,4 @@
-use Rattle.lr_sim.proofs.Lines.{script_read, head_refused, lines_refused}
+use Rattle.lr_sim.proofs.ScriptRefusals.{script_read, head_refused, lines_refused}
 use Rattle.lr_sim.proofs.script.reading.read_script.Goals as goal
 
 pub returns-in-Ok-clause-same : goal.returns-in-Ok-clause-same

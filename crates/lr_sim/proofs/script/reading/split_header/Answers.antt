@@ -1,6 +1,6 @@
 use Rattle.std.proofs.Common.{sym, refl}
 use Rattle.lr_sim.specs.Faults.{too_long, empty, bad_head, no_header}
-use Rattle.lr_sim.proofs.EventFaults.{is_empty, is_filled}
+use Rattle.lr_sim.proofs.FaultLemmas.{is_empty, is_filled}
 use Rattle.lr_sim.proofs.script.reading.split_header.Goals as goal
 
 pub returns-then-bytes-gt-MOST_BYTES-clause-err : goal.returns-then-bytes-gt-MOST_BYTES-clause-err
