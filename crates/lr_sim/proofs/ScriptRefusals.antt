@@ -1,30 +1,23 @@
 -- No script is refused, and each has one header.
-use Rattle.std.proofs.Common.{◌≡◌, ◌≢◌, ℕ, suc, get_or, drop, append_assoc, subst, ◌+◌, ◌%◌, ◌<◌, ◌≤◌, ◌^◌, Bool, true, false, ◌&&◌, ◌||◌, eqb, leb, List, [], ◌∷◌, ◌++◌, length, refl, sym, ◌∙◌, ap, arith, inl, inr, Result, Ok, Err}
+use Rattle.std.proofs.Common.{◌≡◌, ◌≢◌, ℕ, suc, drop, append_assoc, subst, ◌≤◌, List, [], ◌∷◌, ◌++◌, length, refl, sym, ◌∙◌, ap, arith, inl, inr, Result, Ok, Err}
 use Rattle.std.specs.Prelude.{IfOk, IfErr}
-use Rattle.std.specs.List.{All, list_all, list_any}
+use Rattle.std.specs.List.{All}
 use Rattle.std.specs.Fmt.{decimal}
-use Rattle.std.proofs.lemmas.Bool.Decides.{nat_tests}
-use Rattle.std.proofs.lemmas.Fmt.{decimal_by_steps, decimal_injective}
-use Rattle.std.proofs.lemmas.List.Folds.{list_all-append, list_any-append}
-use Rattle.lr_base.specs.Meaning.{Meaning, is_printable}
+use Rattle.std.proofs.lemmas.Fmt.{decimal_injective}
+use Rattle.lr_base.specs.Meaning.{Meaning}
 use Rattle.lr_base.specs.declared.events.Event.{Event}
-use Rattle.lr_base.specs.declared.events.Event.TheVariants.{Call, Deliver, Show}
 use Rattle.lr_base.specs.declared.names.Config.{Config}
 use Rattle.lr_sim.specs.declared.script.Cause.{Cause}
-use Rattle.lr_sim.specs.declared.script.Cause.TheVariants.{Unended, Byte, Fields, Number, Range, Op as NoOp}
 use Rattle.lr_sim.specs.declared.script.Header.{Header}
 use Rattle.lr_sim.specs.declared.script.Name.{Name}
 use Rattle.lr_sim.specs.declared.script.Name.TheVariants.{Tally}
 use Rattle.lr_sim.specs.declared.script.ScriptFault.{ScriptFault}
 use Rattle.lr_sim.specs.declared.script.ScriptFault.TheVariants.{Line, NoMemory}
-use Rattle.lr_sim.specs.declared.script.fields.EventWord.{EventWord}
-use Rattle.lr_sim.specs.declared.script.fields.EventWord.TheVariants.{Call as WCall, Deliver as WDeliver, Show as WShow}
-use Rattle.lr_sim.specs.Fields.{spaces, word_text, four_fields, IsCallFields, IsConfigFields}
+use Rattle.lr_sim.specs.Fields.{IsConfigFields}
 use Rattle.lr_sim.specs.Script.{Fits, IsSetUp, IsScript, HasHeader, line_of, events_text}
 use Rattle.lr_sim.specs.Texts.{event_text, header_text, config_text, service_text}
-use Rattle.lr_sim.specs.Faults.{IsNoLine, IsBadCall, IsBadDeliver, IsBadShow, IsBadFields, IsBadEvent, no_word, word_alone, bad_rest, IsBadLine, no_line, no_event, IsBadHead, too_long, empty, bad_head, no_header, IsBadAt, IsHeadFault, IsLineFault, IsScriptFault, IsRefused}
-use Rattle.lr_sim.proofs.Splits.{spaces_behind}
-use Rattle.lr_sim.proofs.Cuts.{all_head, all_tail, cut_one, field_one, number_spaceless, config_one, service_spaceless}
+use Rattle.lr_sim.specs.Faults.{IsBadLine, IsBadHead, too_long, empty, bad_head, no_header, IsBadAt, IsHeadFault, IsLineFault, IsScriptFault, IsRefused}
+use Rattle.lr_sim.proofs.Cuts.{field_one, number_spaceless, config_one, service_spaceless}
 use Rattle.lr_sim.proofs.ShownTexts.{ArePrintable, header_printable, event_printable}
 use Rattle.lr_sim.proofs.EventRefusals.{no_line_refuted, printable_cut, line_refuted}
 
