@@ -146,7 +146,7 @@ fn read_show<S: Service>(config: Config, fields: &[u8]) -> Result<Event<S::Op>, 
     })
 }
 
-/// Adds the event's line behind `out`, without its LF.
+/// Adds the event's line behind `out`, without its LF. Where there was no memory, a part of the line may be there.
 pub fn print_event<S: Service>(event: &Event<S::Op>, out: &mut Text) -> Result<(), NoMemory>
     ensures { OnOk result (out.new ≡ out.old ++ event_text S.meaning event.now) }
 {

@@ -17,7 +17,7 @@ use std::alloc::Global;
 // The most bytes that a script has.
 const MOST_BYTES: usize = 8_388_608;
 
-/// The header that the bytes begin with. Nothing is said of the lines behind it.
+/// The header that the bytes begin with. Nothing is asked of the lines behind it.
 pub fn read_header(bytes: &[u8]) -> Result<Header, ScriptFault>
     ensures ok { IfOk result (λ header. HasHeader header bytes.now) }
     ensures long { (result ≡ Err (ScriptFault.Line 0 Cause.TooLong)) ↔ (8388608 < length bytes.now) }
@@ -27,7 +27,7 @@ pub fn read_header(bytes: &[u8]) -> Result<Header, ScriptFault>
     Ok(header)
 }
 
-/// The events of a script.
+/// The events of a script, in the order of their lines.
 pub fn read_script<S: Service>(
     alloc: Global,
     bytes: &[u8],
