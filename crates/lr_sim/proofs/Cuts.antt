@@ -11,8 +11,8 @@ use Rattle.lr_sim.specs.Script.{IsSetUp}
 use Rattle.lr_sim.specs.Texts.{config_text, service_text}
 use Rattle.lr_sim.specs.declared.script.Name.{Name}
 use Rattle.lr_sim.specs.declared.script.Name.TheVariants.{Tally}
-use Rattle.lr_sim.specs.declared.script.fields.Word.{Word}
-use Rattle.lr_sim.specs.declared.script.fields.Word.TheVariants.{Call, Deliver, Show}
+use Rattle.lr_sim.specs.declared.script.fields.EventWord.{EventWord}
+use Rattle.lr_sim.specs.declared.script.fields.EventWord.TheVariants.{Call, Deliver, Show}
 use Rattle.lr_sim.proofs.Splits.{spaces-append, spaces_behind}
 
 pub all_head : (b r : Bool) → (b && r) ≡ true → b ≡ true
@@ -56,7 +56,7 @@ pub field_one : (f g r s : List ℕ) → f ++ 32 ∷ r ≡ g ++ 32 ∷ s → spa
 field_one f g r s e hf hg = cut_one (λ x. not (eqb x 32)) 32 refl f g r s e (spaceless f hf) (spaceless g hg)
 
 -- a word holds no space
-pub word_spaceless : (word : Word) → spaces (word_text word) ≡ 0
+pub word_spaceless : (word : EventWord) → spaces (word_text word) ≡ 0
 word_spaceless Call = refl
 word_spaceless Deliver = refl
 word_spaceless Show = refl
@@ -70,14 +70,14 @@ field_before_is line field None later is e = absurd (cc)
 field_before_is line field (Some rest) later is e = let same : rest ≡ later = cc in is.0 ∙ ap (λ (it : Bor (List ℕ)). field ++ 32 ∷ it.now) same
 
 -- where the first field is no word, the line is none and begins with none
-pub no_word_alone : (line field : List ℕ) (rest : Option (Bor (List ℕ))) → IsField line field rest → (word : Word) → field ≢ word_text word → line ≢ word_text word
+pub no_word_alone : (line field : List ℕ) (rest : Option (Bor (List ℕ))) → IsField line field rest → (word : EventWord) → field ≢ word_text word → line ≢ word_text word
 no_word_alone line field None is word other e = other (sym is.0 ∙ e)
 no_word_alone line field (Some rest) is word other e =
     let more : spaces line ≡ 1 + spaces rest.now = spaces_behind line field rest.now is.0 is.1 in
     let none : spaces line ≡ 0 = ap spaces e ∙ word_spaceless word in
     omega arith
 
-pub no_word_before : (line field : List ℕ) (rest : Option (Bor (List ℕ))) → IsField line field rest → (word : Word) → field ≢ word_text word → (later : List ℕ) → line ≢ word_text word ++ 32 ∷ later
+pub no_word_before : (line field : List ℕ) (rest : Option (Bor (List ℕ))) → IsField line field rest → (word : EventWord) → field ≢ word_text word → (later : List ℕ) → line ≢ word_text word ++ 32 ∷ later
 no_word_before line field None is word other later e =
     let more : spaces line ≡ 1 + spaces later = spaces_behind line (word_text word) later e (word_spaceless word) in
     let none : spaces line ≡ 0 = ap spaces is.0 ∙ is.1 in

@@ -1,6 +1,10 @@
-pub mod Splits
+pub mod Calling
 pub mod Cuts
-pub mod Printables
 pub mod EventFaults
-mod Calling
-mod Everywhere
+pub mod EventRefusals
+pub mod Everywhere
+pub mod FaultLemmas
+pub mod Printables
+pub mod ScriptRefusals
+pub mod ShownTexts
+pub mod Splits

@@ -8,12 +8,14 @@ use Rattle.lr_sim.specs.declared.script.Cause.{Cause}
 use Rattle.lr_sim.specs.declared.script.Cause.TheVariants.{TooLong, Unended, Byte, Header, Event as NoWord, Fields, Number, Range, Op}
 use Rattle.lr_sim.specs.declared.script.ScriptFault.{ScriptFault}
 use Rattle.lr_sim.specs.declared.script.ScriptFault.TheVariants.{Line, NoMemory}
-use Rattle.lr_sim.specs.declared.script.fields.Word.{Word}
-use Rattle.lr_sim.specs.declared.script.fields.Word.TheVariants.{Call, Deliver, Show}
+use Rattle.lr_sim.specs.declared.script.event_lines.EventFault.{EventFault}
+use Rattle.lr_sim.specs.declared.script.event_lines.EventFault.TheVariants.{Bad, NoMemory as NoMemoryLeft}
+use Rattle.lr_sim.specs.declared.script.fields.EventWord.{EventWord}
+use Rattle.lr_sim.specs.declared.script.fields.EventWord.TheVariants.{Call, Deliver, Show}
 use Rattle.lr_sim.specs.declared.script.Header.{Header as Head}
 use Rattle.lr_base.specs.declared.events.Event.{Event}
 use Rattle.lr_sim.specs.Texts.{header_text}
-use Rattle.lr_sim.specs.Script.{line_of, events_text, IsSetUp, Fits}
+use Rattle.lr_sim.specs.Script.{line_of, events_text, IsSetUp, Fits, IsNoScript}
 use Rattle.lr_sim.specs.Fields.{spaces, word_text, four_fields, IsCallFields, IsNoNumber}
 
 -- there is a line feed among the bytes
@@ -92,16 +94,16 @@ IsBadShow config fields Range = (replica : ℕ) × (fields ≡ decimal replica) 
 IsBadShow config fields _ = ⊥
 
 -- what stands behind an event's word is not what the word asks for
-abbrev pub IsBadFields : {Value Op : Type 0} → Meaning Value Op → Config → Word → List ℕ → Cause → Type 0
+abbrev pub IsBadFields : {Value Op : Type 0} → Meaning Value Op → Config → EventWord → List ℕ → Cause → Type 0
 IsBadFields m config Call fields cause = IsBadCall m config fields cause
 IsBadFields m config Deliver fields cause = IsBadDeliver fields cause
 IsBadFields m config Show fields cause = IsBadShow config fields cause
 
 -- a printable line is no event's
 pub data IsBadEvent {Value Op : Type 0} (m : Meaning Value Op) (config : Config) (line : List ℕ) : Cause → Type 0 where
-  no_word : ((word : Word) → line ≢ word_text word) → ((word : Word) (rest : List ℕ) → line ≢ word_text word ++ 32 ∷ rest) → IsBadEvent m config line NoWord
-  word_alone : (word : Word) → line ≡ word_text word → IsBadEvent m config line Fields
-  bad_rest : (word : Word) (rest : List ℕ) (cause : Cause) → line ≡ word_text word ++ 32 ∷ rest → IsBadFields m config word rest cause → IsBadEvent m config line cause
+  no_word : ((word : EventWord) → line ≢ word_text word) → ((word : EventWord) (rest : List ℕ) → line ≢ word_text word ++ 32 ∷ rest) → IsBadEvent m config line NoWord
+  word_alone : (word : EventWord) → line ≡ word_text word → IsBadEvent m config line Fields
+  bad_rest : (word : EventWord) (rest : List ℕ) (cause : Cause) → line ≡ word_text word ++ 32 ∷ rest → IsBadFields m config word rest cause → IsBadEvent m config line cause
 
 -- the bytes don't begin with an event's line
 pub data IsBadLine {Value Op : Type 0} (m : Meaning Value Op) (config : Config) (bytes : List ℕ) : Cause → Type 0 where
@@ -112,7 +114,7 @@ pub data IsBadLine {Value Op : Type 0} (m : Meaning Value Op) (config : Config) 
 pub data IsBadHead (bytes : List ℕ) : ℕ → Cause → Type 0 where
   too_long : 8388608 < length bytes → IsBadHead bytes 0 TooLong
   empty : bytes ≡ [] → IsBadHead bytes 1 Header
-  no_line : (cause : Cause) → length bytes ≤ 8388608 → 1 ≤ length bytes → IsNoLine bytes cause → IsBadHead bytes 1 cause
+  bad_head : (cause : Cause) → length bytes ≤ 8388608 → 1 ≤ length bytes → IsNoLine bytes cause → IsBadHead bytes 1 cause
   no_header : (line later : List ℕ) → length bytes ≤ 8388608 → bytes ≡ line ++ 10 ∷ later → is_printable line ≡ true → ((header : Head) → IsSetUp header.config → line ≢ header_text header) → IsBadHead bytes 1 Header
 
 -- the lines before this one are events', and here the next event's would begin
@@ -134,6 +136,11 @@ pub record IsBadAt {Value Op : Type 0} (m : Meaning Value Op) (bytes : List ℕ)
   pub short : length bytes ≤ 8388608
   pub bad : IsBadAmong m header.config lines line cause
 
+-- want of memory has no cause
+abbrev pub IsBecause : (Cause → Type 0) → EventFault → Type 0
+IsBecause Holds (Bad cause) = Holds cause
+IsBecause Holds NoMemoryLeft = Unit {0}
+
 -- a fault names this line and a cause that holds; want of memory has no cause
 abbrev pub IsFaultAt : ℕ → (Cause → Type 0) → ScriptFault → Type 0
 IsFaultAt line Holds (Line at cause) = (at ≡ line) × Holds cause
@@ -153,3 +160,8 @@ IsLineFault m config lines NoMemory = Unit {0}
 abbrev pub IsScriptFault : {Value Op : Type 0} → Meaning Value Op → List ℕ → ScriptFault → Type 0
 IsScriptFault m bytes (Line line cause) = IsBadHead bytes line cause ⊎ IsBadAt m bytes line cause
 IsScriptFault m bytes NoMemory = Unit {0}
+
+-- where the fault is a line's, the bytes are no script
+abbrev pub IsRefused : {Value Op : Type 0} → Meaning Value Op → List ℕ → ScriptFault → Type 0
+IsRefused m bytes (Line line cause) = IsNoScript m bytes
+IsRefused m bytes NoMemory = Unit {0}

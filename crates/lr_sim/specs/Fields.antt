@@ -2,8 +2,8 @@
 use Rattle.std.specs.Prelude.{◌≡◌, ◌≢◌, ℕ, ◌+◌, ◌<◌, ◌^◌, ◌==◌, Option, None, Some, List, [], ◌∷◌, ◌++◌, codes, cond}
 use Rattle.std.specs.Borrow.{Bor}
 use Rattle.std.specs.Fmt.{decimal}
-use Rattle.lr_sim.specs.declared.script.fields.Word.{Word}
-use Rattle.lr_sim.specs.declared.script.fields.Word.TheVariants.{Call, Deliver, Show}
+use Rattle.lr_sim.specs.declared.script.fields.EventWord.{EventWord}
+use Rattle.lr_sim.specs.declared.script.fields.EventWord.TheVariants.{Call, Deliver, Show}
 
 -- how many spaces there are among the bytes
 abbrev pub spaces : List ℕ → ℕ
@@ -16,7 +16,7 @@ IsField line field None = (line ≡ field) × (spaces field ≡ 0)
 IsField line field (Some rest) = (line ≡ field ++ 32 ∷ rest.now) × (spaces field ≡ 0)
 
 -- an event's word
-abbrev pub word_text : Word → List ℕ
+abbrev pub word_text : EventWord → List ℕ
 word_text Call = codes "call"
 word_text Deliver = codes "deliver"
 word_text Show = codes "show"

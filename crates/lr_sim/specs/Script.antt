@@ -1,6 +1,7 @@
 -- What a script says: its header and its events, and which bytes they are written as.
-use Rattle.std.specs.Prelude.{◌≡◌, ℕ, ◌<◌, ◌≤◌, ◌^◌, true, List, [], ◌∷◌, ◌++◌}
+use Rattle.std.specs.Prelude.{◌≡◌, ℕ, ◌<◌, ◌≤◌, ◌^◌, true, List, [], ◌∷◌, ◌++◌, length}
 use Rattle.std.specs.List.{All, flat_map}
+use Rattle.lr_base.specs.Config.{IsValid}
 use Rattle.lr_base.specs.Meaning.{Meaning}
 use Rattle.lr_base.specs.declared.events.Event.{Event}
 use Rattle.lr_base.specs.declared.events.Event.TheVariants.{Call, Deliver, Show}
@@ -22,9 +23,8 @@ script_text m header events = line_of (header_text header) ++ events_text m even
 
 -- a script may ask for this: one replica, 1 to 64 clients, and a number
 pub record IsSetUp (config : Config) : Type 0 where
-  pub replicas : config.replicas ≡ 1
-  pub some_client : 1 ≤ config.clients
-  pub most_clients : config.clients ≤ 64
+  pub valid : IsValid config
+  pub alone : config.replicas ≡ 1
   pub number : config.delta < 2 ^ 64
 
 -- an event names a client and a replica that there are, numbers that fit, and an operation of the service
@@ -39,8 +39,13 @@ pub record HasHeader (header : Header) (bytes : List ℕ) : Type 0 where
   pub rest : List ℕ
   pub text : bytes ≡ line_of (header_text header) ++ rest
 
--- the bytes are the text of this header and these events
+-- the bytes are few enough, and the text of this header and these events
 pub record IsScript {Value Op : Type 0} (m : Meaning Value Op) (header : Header) (events : List (Event Op)) (bytes : List ℕ) : Type 0 where
   pub valid : IsSetUp header.config
   pub fit : All (Fits m header.config) events
+  pub short : length bytes ≤ 8388608
   pub text : bytes ≡ script_text m header events
+
+-- the bytes are no header's and no events' text
+abbrev pub IsNoScript : {Value Op : Type 0} → Meaning Value Op → List ℕ → Type 0
+IsNoScript {Value} {Op} m bytes = (header : Header) (events : List (Event Op)) → ¬ (IsScript m header events bytes)

@@ -1,16 +1,24 @@
 //! The lines of events, read and printed.
 ghost use Rattle.std.specs.Prelude.{◌≡◌, ◌++◌, ◌<◌, codes, IfOk, IfErr, OnOk, IfSome, IsNone, string_bytes};
 ghost use Rattle.std.specs.Fmt.{decimal};
+ghost use Rattle.lr_base.specs.declared.names.Config.{Config};
 ghost use Rattle.lr_sim.specs.Fields.{spaces, IsCallFields};
-ghost use Rattle.lr_sim.specs.Faults.{IsFaultAt, IsBadEvent, IsBadCall, IsBadDeliver, IsBadShow};
+ghost use Rattle.lr_sim.specs.Faults.{IsBecause, IsBadEvent, IsBadCall, IsBadDeliver, IsBadShow};
 ghost use Rattle.lr_sim.specs.Script.{Fits};
 ghost use Rattle.lr_sim.specs.Texts.{event_text};
 
-use crate::script::fields::{Word, is_one_field, split_field, word_of};
-use crate::script::{Cause, ScriptFault};
+use crate::script::Cause;
+use crate::script::fields::{EventWord, is_one_field, split_field, word_of};
 use lr_base::lr_service::{OpFault, Service};
 use lr_base::{Config, Event, NoMemory, Text, read_number};
 use std::alloc::{AllocError, Global};
+
+// Why a line was not read as an event.
+#[derive(Drop)]
+pub enum EventFault {
+    Bad(Cause),
+    NoMemory,
+}
 
 // The fields of a call's line behind its word.
 struct CallFields<'a> {
@@ -24,30 +32,23 @@ struct CallFields<'a> {
 pub fn read_event<S: Service>(
     alloc: Global,
     config: Config,
-    line: u64,
     text: &[u8],
-) -> Result<Event<S::Op>, ScriptFault>
+) -> Result<Event<S::Op>, EventFault>
     ensures fits { IfOk result (Fits S.meaning config) }
     ensures text { IfOk result (λ event. text.now ≡ event_text S.meaning event) }
-    ensures err { IfErr result (IsFaultAt line (IsBadEvent S.meaning config text.now)) }
+    ensures err { IfErr result (IsBecause (IsBadEvent S.meaning config text.now)) }
 {
     let (word, fields) = split_field(text);
     let Some(word) = word_of(word) else {
-        return Err(ScriptFault::Line {
-            line,
-            cause: Cause::Event,
-        });
+        return Err(EventFault::Bad(Cause::Event));
     };
     let Some(fields) = fields else {
-        return Err(ScriptFault::Line {
-            line,
-            cause: Cause::Fields,
-        });
+        return Err(EventFault::Bad(Cause::Fields));
     };
     match word {
-        Word::Call => read_call::<S>(alloc, config, line, fields),
-        Word::Deliver => read_deliver::<S>(config, line, fields),
-        Word::Show => read_show::<S>(config, line, fields),
+        EventWord::Call => read_call::<S>(alloc, config, fields),
+        EventWord::Deliver => read_deliver::<S>(fields),
+        EventWord::Show => read_show::<S>(config, fields),
     }
 }
 
@@ -70,18 +71,14 @@ fn call_fields(fields: &[u8]) -> Option<CallFields<'_>>
 fn read_call<S: Service>(
     alloc: Global,
     config: Config,
-    line: u64,
     fields: &[u8],
-) -> Result<Event<S::Op>, ScriptFault>
+) -> Result<Event<S::Op>, EventFault>
     ensures fits { IfOk result (Fits S.meaning config) }
     ensures text { IfOk result (λ event. codes "call " ++ fields.now ≡ event_text S.meaning event) }
-    ensures err { IfErr result (IsFaultAt line (IsBadCall S.meaning config fields.now)) }
+    ensures err { IfErr result (IsBecause (IsBadCall S.meaning config fields.now)) }
 {
     let Some(fields) = call_fields(fields) else {
-        return Err(ScriptFault::Line {
-            line,
-            cause: Cause::Fields,
-        });
+        return Err(EventFault::Bad(Cause::Fields));
     };
     let CallFields {
         client,
@@ -90,34 +87,19 @@ fn read_call<S: Service>(
         op,
     } = fields;
     let Some(client) = read_number(client) else {
-        return Err(ScriptFault::Line {
-            line,
-            cause: Cause::Number,
-        });
+        return Err(EventFault::Bad(Cause::Number));
     };
     let Some(replica) = read_number(replica) else {
-        return Err(ScriptFault::Line {
-            line,
-            cause: Cause::Number,
-        });
+        return Err(EventFault::Bad(Cause::Number));
     };
     let Some(reading) = read_number(reading) else {
-        return Err(ScriptFault::Line {
-            line,
-            cause: Cause::Number,
-        });
+        return Err(EventFault::Bad(Cause::Number));
     };
     if config.clients as u64 <= client {
-        return Err(ScriptFault::Line {
-            line,
-            cause: Cause::Range,
-        });
+        return Err(EventFault::Bad(Cause::Range));
     }
     if config.replicas as u64 <= replica {
-        return Err(ScriptFault::Line {
-            line,
-            cause: Cause::Range,
-        });
+        return Err(EventFault::Bad(Cause::Range));
     }
     match S::read_op(alloc, op) {
         Ok(op) => Ok(Event::Call {
@@ -126,71 +108,45 @@ fn read_call<S: Service>(
             reading,
             op,
         }),
-        Err(OpFault::NotAnOp) => Err(ScriptFault::Line {
-            line,
-            cause: Cause::Op,
-        }),
-        Err(OpFault::NoMemory) => Err(ScriptFault::NoMemory),
+        Err(OpFault::NotAnOp) => Err(EventFault::Bad(Cause::Op)),
+        Err(OpFault::NoMemory) => Err(EventFault::NoMemory),
     }
 }
 
-fn read_deliver<S: Service>(
-    config: Config,
-    line: u64,
-    fields: &[u8],
-) -> Result<Event<S::Op>, ScriptFault>
-    ensures fits { IfOk result (Fits S.meaning config) }
+fn read_deliver<S: Service>(fields: &[u8]) -> Result<Event<S::Op>, EventFault>
+    ensures fits { (config : Config) → IfOk result (Fits S.meaning config) }
     ensures text { IfOk result (λ event. codes "deliver " ++ fields.now ≡ event_text S.meaning event) }
-    ensures err { IfErr result (IsFaultAt line (IsBadDeliver fields.now)) }
+    ensures err { IfErr result (IsBecause (IsBadDeliver fields.now)) }
 {
     if !is_one_field(fields) {
-        return Err(ScriptFault::Line {
-            line,
-            cause: Cause::Fields,
-        });
+        return Err(EventFault::Bad(Cause::Fields));
     }
     let Some(message) = read_number(fields) else {
-        return Err(ScriptFault::Line {
-            line,
-            cause: Cause::Number,
-        });
+        return Err(EventFault::Bad(Cause::Number));
     };
     Ok(Event::Deliver { message })
 }
 
-fn read_show<S: Service>(
-    config: Config,
-    line: u64,
-    fields: &[u8],
-) -> Result<Event<S::Op>, ScriptFault>
+fn read_show<S: Service>(config: Config, fields: &[u8]) -> Result<Event<S::Op>, EventFault>
     ensures fits { IfOk result (Fits S.meaning config) }
     ensures text { IfOk result (λ event. codes "show " ++ fields.now ≡ event_text S.meaning event) }
-    ensures err { IfErr result (IsFaultAt line (IsBadShow config fields.now)) }
+    ensures err { IfErr result (IsBecause (IsBadShow config fields.now)) }
 {
     if !is_one_field(fields) {
-        return Err(ScriptFault::Line {
-            line,
-            cause: Cause::Fields,
-        });
+        return Err(EventFault::Bad(Cause::Fields));
     }
     let Some(replica) = read_number(fields) else {
-        return Err(ScriptFault::Line {
-            line,
-            cause: Cause::Number,
-        });
+        return Err(EventFault::Bad(Cause::Number));
     };
     if config.replicas as u64 <= replica {
-        return Err(ScriptFault::Line {
-            line,
-            cause: Cause::Range,
-        });
+        return Err(EventFault::Bad(Cause::Range));
     }
     Ok(Event::Show {
         replica: replica as u8,
     })
 }
 
-/// Adds the event's line behind `out`, without its LF.
+/// Adds the event's line behind `out`, without its LF. Where there was no memory, a part of the line may be there.
 pub fn print_event<S: Service>(event: &Event<S::Op>, out: &mut Text) -> Result<(), NoMemory>
     ensures { OnOk result (out.new ≡ out.old ++ event_text S.meaning event.now) }
 {

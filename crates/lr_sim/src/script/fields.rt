@@ -1,11 +1,11 @@
 //! The fields of a line.
 ghost use Rattle.std.specs.Prelude.{◌≡◌, ◌≢◌, ◌==◌, ◌+◌, ◌↔◌, IsTrue, IfSome, IsNone, MatchOption, position};
 ghost use Rattle.lr_sim.specs.Fields.{IsField, spaces, word_text};
-ghost use Rattle.lr_sim.specs.declared.script.fields.Word.{Word};
+ghost use Rattle.lr_sim.specs.declared.script.fields.EventWord.{EventWord};
 
 // The word that an event's line begins with.
 #[derive(Clone, Copy)]
-pub enum Word {
+pub enum EventWord {
     Call,
     Deliver,
     Show,
@@ -39,18 +39,18 @@ pub fn is_one_field(line: &[u8]) -> bool
 }
 
 // The event's word that a field is.
-pub fn word_of(field: &[u8]) -> Option<Word>
+pub fn word_of(field: &[u8]) -> Option<EventWord>
     ensures some { IfSome result (λ word. field.now ≡ word_text word) }
-    ensures none { IsNone result → (word : Word) → field.now ≢ word_text word }
+    ensures none { IsNone result → (word : EventWord) → field.now ≢ word_text word }
 {
     if field == b"call".as_slice() {
-        return Some(Word::Call);
+        return Some(EventWord::Call);
     }
     if field == b"deliver".as_slice() {
-        return Some(Word::Deliver);
+        return Some(EventWord::Deliver);
     }
     if field == b"show".as_slice() {
-        return Some(Word::Show);
+        return Some(EventWord::Show);
     }
     None
 }

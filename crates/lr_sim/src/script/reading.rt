@@ -2,11 +2,11 @@
 ghost use Rattle.std.specs.Prelude.{◌≡◌, ◌+◌, ◌<◌, ◌≤◌, ◌++◌, ◌↔◌, length, IfOk, IfErr};
 ghost use Rattle.std.specs.List.{All};
 ghost use Rattle.lr_sim.specs.declared.script.Header.{Header};
-ghost use Rattle.lr_sim.specs.Faults.{IsFaultAt, IsBadLine, IsHeadFault, IsLineFault, IsScriptFault};
+ghost use Rattle.lr_sim.specs.Faults.{IsFaultAt, IsBadLine, IsHeadFault, IsLineFault, IsRefused, IsScriptFault};
 ghost use Rattle.lr_sim.specs.Script.{Fits, IsSetUp, IsScript, HasHeader, line_of, events_text};
 ghost use Rattle.lr_sim.specs.Texts.{event_text, header_text};
 
-use crate::script::event_lines::read_event;
+use crate::script::event_lines::{EventFault, read_event};
 use crate::script::heading::header_of;
 use crate::script::lines::first_line;
 use crate::script::{Cause, Header, ScriptFault};
@@ -17,7 +17,7 @@ use std::alloc::Global;
 // The most bytes that a script has.
 const MOST_BYTES: usize = 8_388_608;
 
-/// The header that the bytes begin with. Nothing is said of the lines behind it.
+/// The header that the bytes begin with. Nothing is asked of the lines behind it.
 pub fn read_header(bytes: &[u8]) -> Result<Header, ScriptFault>
     ensures ok { IfOk result (λ header. HasHeader header bytes.now) }
     ensures long { (result ≡ Err (ScriptFault.Line 0 Cause.TooLong)) ↔ (8388608 < length bytes.now) }
@@ -27,17 +27,21 @@ pub fn read_header(bytes: &[u8]) -> Result<Header, ScriptFault>
     Ok(header)
 }
 
-/// The events of a script.
+/// The events of a script, in the order of their lines.
 pub fn read_script<S: Service>(
     alloc: Global,
     bytes: &[u8],
 ) -> Result<Rows<Event<S::Op>>, ScriptFault>
     ensures ok { IfOk result (λ events. (header : Header) × IsScript S.meaning header events bytes.now) }
     ensures long { (result ≡ Err (ScriptFault.Line 0 Cause.TooLong)) ↔ (8388608 < length bytes.now) }
+    ensures same { (header : Header) → HasHeader header bytes.now → IfOk result (λ events. IsScript S.meaning header events bytes.now) }
     ensures err { IfErr result (IsScriptFault S.meaning bytes.now) }
+    ensures refused { IfErr result (IsRefused S.meaning bytes.now) }
 {
-    let (header, lines) = split_header(bytes)?;
-    read_events::<S>(alloc, header.config, lines)
+    match split_header(bytes) {
+        Ok((header, lines)) => read_events::<S>(alloc, header.config, lines),
+        Err(fault) => Err(fault),
+    }
 }
 
 // The header, and the lines behind it.
@@ -109,9 +113,12 @@ fn next_event<S: Service>(
     ensures err { IfErr result (IsFaultAt line (IsBadLine S.meaning config lines.now)) }
 {
     match first_line(lines) {
-        Ok((text, later)) => match read_event::<S>(alloc, config, line, text) {
+        Ok((text, later)) => match read_event::<S>(alloc, config, text) {
             Ok(event) => Ok((event, later)),
-            Err(fault) => Err(fault),
+            Err(fault) => match fault {
+                EventFault::Bad(cause) => Err(ScriptFault::Line { line, cause }),
+                EventFault::NoMemory => Err(ScriptFault::NoMemory),
+            },
         },
         Err(cause) => Err(ScriptFault::Line { line, cause }),
     }
