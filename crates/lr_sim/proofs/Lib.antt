@@ -2,3 +2,4 @@ pub mod Splits
 pub mod Cuts
 pub mod Printables
 pub mod EventFaults
+mod PrintedLemmas

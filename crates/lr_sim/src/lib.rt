@@ -2,6 +2,7 @@
 #![tactic(auto)]
 
 mod front;
+mod report;
 mod script;
 
 pub use script::{Cause, Header, Name, ScriptFault, print_event, read_header, read_script};
