@@ -5,6 +5,7 @@ pub mod EventRefusals
 pub mod Everywhere
 pub mod FaultLemmas
 pub mod Printables
+pub mod PrintedLemmas
 pub mod ScriptRefusals
 pub mod ShownTexts
 pub mod Splits

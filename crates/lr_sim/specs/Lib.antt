@@ -2,6 +2,7 @@ pub mod Faults
 pub mod Fields
 pub mod Fronts
 pub mod Posts
+pub mod Printed
 pub mod Replicas
 pub mod Script
 pub mod Shapes

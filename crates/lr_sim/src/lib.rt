@@ -3,10 +3,13 @@
 
 mod act;
 mod acts;
+mod command;
 mod front;
 mod posted;
 mod replica;
+mod report;
 mod script;
 mod world;
 
+pub use command::{SimEnd, sim_command};
 pub use script::{Cause, Header, Name, ScriptFault, print_event, read_header, read_script};
