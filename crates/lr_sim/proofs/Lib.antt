@@ -1,6 +1,6 @@
+pub mod InRange
 pub mod Calling
 pub mod Cuts
-pub mod EventFaults
 pub mod EventRefusals
 pub mod Everywhere
 pub mod FaultLemmas

@@ -9,7 +9,7 @@ mod tests;
 
 pub use event_lines::print_event;
 use lr_base::Config;
-pub use reading::{read_header, read_script};
+pub use reading::{read_events, read_header, read_script, split_header};
 use thiserror::Error;
 
 /// A service that a script may name.

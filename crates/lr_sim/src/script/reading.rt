@@ -44,8 +44,8 @@ pub fn read_script<S: Service>(
     }
 }
 
-// The header, and the lines behind it.
-fn split_header(bytes: &[u8]) -> Result<(Header, &[u8]), ScriptFault>
+/// The header, and the lines behind it.
+pub fn split_header(bytes: &[u8]) -> Result<(Header, &[u8]), ScriptFault>
     ensures valid { IfOk result (λ parts. IsSetUp parts.0.config) }
     ensures text { IfOk result (λ parts. bytes.now ≡ line_of (header_text parts.0) ++ parts.1.now) }
     ensures short { IfOk result (λ parts. length bytes.now ≤ 8388608) }
@@ -76,8 +76,8 @@ fn split_header(bytes: &[u8]) -> Result<(Header, &[u8]), ScriptFault>
     }
 }
 
-// The events of the lines, of which the first is line 2.
-fn read_events<S: Service>(
+/// The events of the lines, of which the first is line 2.
+pub fn read_events<S: Service>(
     alloc: Global,
     config: Config,
     lines: &[u8],

@@ -1,0 +1,161 @@
+//! The command `sim`: reads a script to its end, runs it, and writes its history.
+ghost use Rattle.std.specs.Prelude.{ℕ, ◌≡◌, ◌≤◌, ◌≢◌, OnErr, length};
+ghost use Rattle.std.specs.List.{All};
+ghost use Rattle.lr_outside.specs.Faults.{Rose};
+ghost use Rattle.lr_sim.specs.Ends.{IsFault, SimEnded};
+ghost use Rattle.lr_sim.specs.Script.{Fits, IsSetUp};
+
+use crate::report::{render_header, render_step};
+use crate::script::{Cause, Header, Name, ScriptFault, read_events, split_header};
+use crate::world::World;
+use lr_base::lr_service::Service;
+use lr_base::svc_tally::Tally;
+use lr_base::{Event, NoMemory, Text};
+use lr_outside::{Failed, ReadEnd, Sink, Source, read_up_to, write_whole};
+use std::alloc::Global;
+
+// One byte more than a script may have.
+const MOST_INPUT: usize = 8_388_609;
+
+// How much text is gathered before it is written.
+const PIECE: usize = 8192;
+
+/// How a simulation ended.
+#[derive(Clone, Copy, PartialEq, Eq)]
+pub enum SimEnd {
+    /// The history was written.
+    Ok,
+    /// The input is no script: its first bad line, and what is wrong with it.
+    Script { line: u64, cause: Cause },
+    /// Reading failed.
+    ReadFault,
+    /// Writing failed.
+    WriteFault,
+    NoMemory,
+}
+
+/// Reads a script to its end, runs it, and writes its history.
+pub fn sim_command<R: Source, W: Sink>(alloc: Global, input: &mut R, out: &mut W) -> SimEnd
+    ensures ended { SimEnded (R.faults input.old) (R.faults input.new) (W.faults out.old) (W.faults out.new) out.old out.new result }
+{
+    let bytes = match read_up_to(alloc, input, MOST_INPUT) {
+        Ok(bytes) => bytes,
+        Err(ReadEnd::Failed) => return SimEnd::ReadFault,
+        Err(ReadEnd::NoMemory) => return SimEnd::NoMemory,
+    };
+    simulate(alloc, bytes.as_slice(), out)
+}
+
+// Runs the script that the bytes are.
+fn simulate<W: Sink>(alloc: Global, bytes: &[u8], out: &mut W) -> SimEnd
+    ensures read { result ≢ SimEnd.ReadFault }
+    ensures script { (line : ℕ) (cause : Cause) → result ≡ SimEnd.Script line cause → out.new ≡ out.old }
+    ensures write { result ≡ SimEnd.WriteFault → Rose (W.faults out.old) (W.faults out.new) }
+    ensures later { W.faults out.old ≤ W.faults out.new }
+{
+    match split_header(bytes) {
+        Ok((header, lines)) => match header.service {
+            Name::Tally => simulate_lines::<Tally, W>(alloc, header, lines, out),
+        },
+        Err(fault) => refused(fault),
+    }
+}
+
+fn refused(fault: ScriptFault) -> SimEnd
+    ensures { IsFault fault result }
+{
+    match fault {
+        ScriptFault::Line { line, cause } => SimEnd::Script { line, cause },
+        ScriptFault::NoMemory => SimEnd::NoMemory,
+    }
+}
+
+// Runs the events that the lines are, for the service that the header names.
+fn simulate_lines<S: Service, W: Sink>(
+    alloc: Global,
+    header: Header,
+    lines: &[u8],
+    out: &mut W,
+) -> SimEnd
+    requires set_up { IsSetUp header.config }
+    requires short { length lines.now ≤ 8388608 }
+    ensures read { result ≢ SimEnd.ReadFault }
+    ensures script { (line : ℕ) (cause : Cause) → result ≡ SimEnd.Script line cause → out.new ≡ out.old }
+    ensures write { result ≡ SimEnd.WriteFault → Rose (W.faults out.old) (W.faults out.new) }
+    ensures later { W.faults out.old ≤ W.faults out.new }
+{
+    match read_events::<S>(alloc, header.config, lines) {
+        Ok(events) => match write_history::<S, W>(alloc, &header, events.as_slice(), out) {
+            Ok(()) => SimEnd::Ok,
+            Err(RunFault::Write) => SimEnd::WriteFault,
+            Err(RunFault::NoMemory) => SimEnd::NoMemory,
+        },
+        Err(fault) => refused(fault),
+    }
+}
+
+// Why a history was not written whole.
+#[derive(Clone, Copy, PartialEq, Eq)]
+enum RunFault {
+    Write,
+    NoMemory,
+}
+
+impl From<NoMemory> for RunFault {
+    ghost use Rattle.std.specs.Prelude.{◌≡◌};
+    ghost use Rattle.lr_sim.specs.declared.command.RunFault.TheVariants.{NoMemory as NoMemoryLeft};
+
+    ghost from_gives = { λ _ fault. fault ≡ NoMemoryLeft };
+
+    fn from(_no_memory: NoMemory) -> RunFault {
+        RunFault::NoMemory
+    }
+}
+
+impl From<Failed> for RunFault {
+    ghost use Rattle.std.specs.Prelude.{◌≡◌};
+    ghost use Rattle.lr_sim.specs.declared.command.RunFault.TheVariants.{Write};
+
+    ghost from_gives = { λ _ fault. fault ≡ Write };
+
+    fn from(_failed: Failed) -> RunFault {
+        RunFault::Write
+    }
+}
+
+// Runs the events one after another, and writes the history in pieces of some kilobytes.
+fn write_history<S: Service, W: Sink>(
+    alloc: Global,
+    header: &Header,
+    events: &[Event<S::Op>],
+    out: &mut W,
+) -> Result<(), RunFault>
+    requires set_up { IsSetUp header.now.config }
+    requires fit { All (Fits S.meaning header.now.config) events.now }
+    ensures write { result ≡ Err RunFault.Write → Rose (W.faults out.old) (W.faults out.new) }
+    ensures later { W.faults out.old ≤ W.faults out.new }
+{
+    let mut world = World::<S>::new(alloc, header.config)?;
+    let mut text = Text::new(alloc);
+    render_header(header, &mut text)?;
+    for (at, event) in events.iter().enumerate() {
+        let outcomes = world.step(event)?;
+        let number = at as u64 + 1;
+        render_step::<S>(header.config, number, event, outcomes.as_slice(), &mut text)?;
+        write_full(&mut text, out)?;
+    }
+    write_whole(out, text.as_slice())?;
+    Ok(())
+}
+
+// Writes the gathered text, if it is enough for a piece.
+fn write_full<W: Sink>(text: &mut Text, out: &mut W) -> Result<(), Failed>
+    ensures cause { OnErr result (Rose (W.faults out.old) (W.faults out.new)) }
+    ensures later { W.faults out.old ≤ W.faults out.new }
+{
+    if text.len() >= PIECE {
+        write_whole(out, text.as_slice())?;
+        text.clear();
+    }
+    Ok(())
+}
