@@ -34,13 +34,15 @@ pub record CausalState (Value Op : Type 0) : Type 0 where
   pub updates : List (LogUpdate Op)
   pub acks : List LogAck
   pub calls : List (Cid × Known)
+  pub table : List (List ℕ)
   pub order_ts : List ℕ
   pub imm_ts : List ℕ
   pub top : ℕ
+  pub held : List (Call Op)
 
 -- the state of a replica at which nothing has happened
-abbrev pub first_state : {Value Op : Type 0} → Meaning Value Op → ℕ → CausalState Value Op
-first_state m parts = record {
+abbrev pub first_state : {Value Op : Type 0} → Meaning Value Op → ℕ → ℕ → CausalState Value Op
+first_state m replicas parts = record {
   clock = 0;
   rep_ts = replicate parts 0;
   val_ts = replicate parts 0;
@@ -48,9 +50,11 @@ first_state m parts = record {
   updates = [];
   acks = [];
   calls = [];
+  table = replicate replicas (replicate parts 0);
   order_ts = replicate parts 0;
   imm_ts = replicate parts 0;
   top = 0;
+  held = [];
 }
 
 -- the stamp of a logged update: its causes, and its own number at its place
@@ -160,6 +164,10 @@ applied m state =
 -- pruning: a lone replica keeps no update, since all know it; with several nothing leaves
 abbrev pub pruned : {Value Op : Type 0} → ℕ → CausalState Value Op → CausalState Value Op
 pruned replicas state = if replicas == 1 then record state { updates = [] } else state
+
+-- holding a query: it comes behind those that are held
+abbrev pub held_more : {Value Op : Type 0} → CausalState Value Op → Call Op → CausalState Value Op
+held_more state call = record state { held = state.held ++ call ∷ [] }
 
 -- what a query with this label is answered: nothing while something of its label isn't applied
 abbrev pub answer_of : {Value Op : Type 0} → Meaning Value Op → Value → List ℕ → List ℕ → Op → Option (List ℕ)

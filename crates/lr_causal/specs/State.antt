@@ -14,9 +14,11 @@ state_of c = record {
   updates = c.log.updates;
   acks = c.log.acks;
   calls = c.calls;
+  table = c.table.items;
   order_ts = c.order_ts;
   imm_ts = c.imm_ts;
   top = c.top;
+  held = c.held.items;
 }
 
 -- what the run is set up with

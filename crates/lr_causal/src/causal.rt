@@ -1,5 +1,5 @@
 //! The causal part of a replica.
-ghost use Rattle.std.specs.Prelude.{◌≡◌, ◌+◌, ◌<◌, ◌≤◌, length};
+ghost use Rattle.std.specs.Prelude.{◌≡◌, ◌+◌, ◌<◌, ◌≤◌, length, replicate, IfOk};
 ghost use Rattle.lr_base.specs.Config.{IsValid};
 ghost use Rattle.lr_causal.specs.Causal.{AllLogged, AllKnown};
 
@@ -22,9 +22,13 @@ pub struct Causal<S: Service> {
     log: Log<S::Op>,
     value: Value<S>,
     calls: CallTable,
+    // What each replica was last heard to have received.
+    table: Vec<Stamp>,
     order_ts: Stamp,
     imm_ts: Stamp,
     top: u64,
+    // The queries that wait for what their labels name.
+    held: Vec<Call<S::Op>>,
     ghost valid: { IsValid config },
     ghost own_place: { me < config.replicas },
     ghost rep_parts: { length rep_ts ≡ config.replicas + 1 },
@@ -40,7 +44,7 @@ impl<S: Service> Causal<S> {
     ghost use Rattle.lr_causal.specs.Causal.{AgainHasParts};
     ghost use Rattle.lr_base.specs.Config.{IsValid};
     ghost use Rattle.lr_base.specs.Kinds.{IsQuery, IsUpdate};
-    ghost use Rattle.lr_base.specs.Rules.{accepted, answer_of, applied, pruned, first_state, fresh_of, known_of, same_cid, stamp_of, taken_before, update_of_call};
+    ghost use Rattle.lr_base.specs.Rules.{accepted, answer_of, applied, pruned, first_state, fresh_of, held_more, known_of, same_cid, stamp_of, taken_before, update_of_call};
     ghost use Rattle.lr_base.specs.Stamps.{part};
     ghost use Rattle.lr_causal.specs.State.{config_of, me_of, state_of};
 
@@ -48,12 +52,13 @@ impl<S: Service> Causal<S> {
     pub fn new(alloc: Global, config: Config, me: u8) -> Result<Self, NoMemory>
         requires valid { IsValid config }
         requires own_place { me < config.replicas }
-        ensures state { IfOk result (λ made. state_of made ≡ first_state S.meaning (config.replicas + 1)) }
+        ensures state { IfOk result (λ made. state_of made ≡ first_state S.meaning config.replicas (config.replicas + 1)) }
         ensures config { IfOk result (λ made. config_of made ≡ config) }
         ensures me { IfOk result (λ made. me_of made ≡ me) }
     {
         let parts = config.replicas + 1;
         let value = Value::new(alloc, parts)?;
+        let table = first_table(alloc, config.replicas, parts)?;
         Ok(Causal {
             config,
             me,
@@ -62,10 +67,17 @@ impl<S: Service> Causal<S> {
             log: Log::new(alloc),
             value,
             calls: CallTable::new(alloc),
+            table,
             order_ts: Stamp::zero(parts),
             imm_ts: Stamp::zero(parts),
             top: 0,
+            held: Vec::new(alloc),
         })
+    }
+
+    /// What makes room for what it keeps.
+    pub fn allocator(&self) -> Global {
+        self.log.allocator()
     }
 
     /// What the run is set up with.
@@ -128,6 +140,20 @@ impl<S: Service> Causal<S> {
         &self.calls
     }
 
+    /// What each replica was last heard to have received.
+    pub fn table(&self) -> &[Stamp]
+        ensures { result.now ≡ (state_of self.now).table }
+    {
+        self.table.as_slice()
+    }
+
+    /// The held queries, in the order of arrival.
+    pub fn held(&self) -> &[Call<S::Op>]
+        ensures { result.now ≡ (state_of self.now).held }
+    {
+        self.held.as_slice()
+    }
+
     /// The stamp of the ordered update that was received last.
     pub fn order_ts(&self) -> &Stamp
         ensures { result.now ≡ (state_of self.now).order_ts }
@@ -158,6 +184,8 @@ impl<S: Service> Causal<S> {
         let log = self.log.copy()?;
         let value = self.value.copy()?;
         let calls = self.calls.copy()?;
+        let table = copy_table(self.table.as_slice(), self.log.allocator())?;
+        let held = copy_held(self.held.as_slice(), self.log.allocator())?;
         Ok(Causal {
             config: self.config,
             me: self.me,
@@ -166,9 +194,11 @@ impl<S: Service> Causal<S> {
             log,
             value,
             calls,
+            table,
             order_ts: self.order_ts.copy(),
             imm_ts: self.imm_ts.copy(),
             top: self.top,
+            held,
         })
     }
 
@@ -272,4 +302,49 @@ impl<S: Service> Causal<S> {
     {
         self.value.read(label, op)
     }
+
+    /// Holds a query behind the others.
+    pub fn hold(&mut self, call: &Call<S::Op>) -> Result<(), NoMemory>
+        ensures ok { OnOk result (state_of self.new ≡ held_more (state_of self.old) call.now) }
+        ensures err { OnErr result (state_of self.new ≡ state_of self.old) }
+        ensures config { config_of self.new ≡ config_of self.old }
+        ensures me { me_of self.new ≡ me_of self.old }
+    {
+        let copied = call.copy()?;
+        self.held.push(copied)?;
+        Ok(())
+    }
+}
+
+// A stamp of zeros for each replica.
+fn first_table(alloc: Global, replicas: u8, parts: u8) -> Result<Vec<Stamp>, NoMemory>
+    requires some { 2 ≤ parts }
+    requires most { parts ≤ 10 }
+    ensures { IfOk result (λ table. table.items ≡ replicate replicas (replicate parts 0)) }
+{
+    let mut table = Vec::new(alloc);
+    for _ in 0..replicas {
+        table.push(Stamp::zero(parts))?;
+    }
+    Ok(table)
+}
+
+fn copy_table(table: &[Stamp], alloc: Global) -> Result<Vec<Stamp>, NoMemory>
+    ensures { IfOk result (λ copied. copied.items ≡ table.now) }
+{
+    let mut copied = Vec::new(alloc);
+    for stamp in table {
+        copied.push(stamp.copy())?;
+    }
+    Ok(copied)
+}
+
+fn copy_held<O: Operation>(held: &[Call<O>], alloc: Global) -> Result<Vec<Call<O>>, NoMemory>
+    ensures { IfOk result (λ copied. copied.items ≡ held.now) }
+{
+    let mut copied = Vec::new(alloc);
+    for call in held {
+        copied.push(call.copy()?)?;
+    }
+    Ok(copied)
 }

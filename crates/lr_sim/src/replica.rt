@@ -17,11 +17,10 @@ const HELD_ROOM: usize = 1024;
 // The greatest number of a replica's items.
 const LAST_ITEM: u64 = 1 << 62;
 
-/// A replica, with the queries that wait for what their labels name.
+/// A replica: its causal part, and what is asked of it.
 #[derive(Drop)]
 pub struct Replica<S: Service> {
     causal: Causal<S>,
-    held: Vec<Call<S::Op>>,
 }
 
 impl<S: Service> Replica<S> {
@@ -40,10 +39,7 @@ impl<S: Service> Replica<S> {
         ensures { IfOk result (λ made. setting_of made ≡ config) }
     {
         let causal = Causal::new(alloc, config, me)?;
-        Ok(Replica {
-            causal,
-            held: Vec::new(alloc),
-        })
+        Ok(Replica { causal })
     }
 
     /// Takes a message that was sent to it.
@@ -61,7 +57,7 @@ impl<S: Service> Replica<S> {
     }
 
     fn allocator(&self) -> Global {
-        *self.held.allocator()
+        self.causal.allocator()
     }
 
     // The first checks of an update.
@@ -126,11 +122,10 @@ impl<S: Service> Replica<S> {
         ensures acts { IfOk result (λ acts. AllFitting S.Op.kind_of (setting_of self.old) acts.items) }
         ensures setting { setting_of self.new ≡ setting_of self.old }
     {
-        if self.held.len() >= HELD_ROOM {
+        if self.causal.held().len() >= HELD_ROOM {
             return refused(self.allocator(), Refusal::FullHeld);
         }
-        let copy = call.copy()?;
-        self.held.push(copy)?;
+        self.causal.hold(call)?;
         say(self.allocator(), Outcome::Hold { cid: call.cid })
     }
 
@@ -176,7 +171,7 @@ impl<S: Service> Replica<S> {
     // The held queries, in the order of arrival.
     fn held_calls(&self) -> Result<Rows<Cid>, NoMemory> {
         let mut cids = Rows::new(self.allocator());
-        for call in self.held.as_slice() {
+        for call in self.causal.held() {
             cids.push(call.cid)?;
         }
         Ok(cids)
