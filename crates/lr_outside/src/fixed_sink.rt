@@ -1,30 +1,32 @@
 //! A sink in memory with room for so many bytes.
-ghost use Rattle.std.specs.Prelude.{◌≡◌, ◌-◌, ◌<◌, ◌++◌, [], Some, length, min, take, IsErr, IfOk, OnErr};
+ghost use Rattle.std.specs.Prelude.{◌≡◌, ◌-◌, ◌<◌, ◌++◌, ◌↔◌, [], Some, length, min, take, IsErr, IfOk, OnErr};
 ghost use Rattle.std.specs.Io.{WritesAtMost};
 ghost use Rattle.std.specs.Io.KnownBytes.{WriteAppends};
 ghost use Rattle.lr_outside.specs.Faults.{HasCause, Rose, one_more};
 
 use crate::sink::Sink;
 use crate::source::Failed;
-use lr_base::{NoMemory, Rows};
+use lr_base::NoMemory;
 use std::alloc::Global;
 use std::marker::Model;
 
-/// A sink that takes so many bytes in all, and then fails. Memory for them is taken when it is made; a write that finds none
-/// fails too.
+/// A sink that takes so many bytes in all, and then fails. Memory for them is taken when it is made, and a write needs none.
 #[derive(Debug, Drop)]
 pub struct FixedSink {
-    bytes: Rows<u8>,
+    bytes: Vec<u8>,
     room: u64,
     faults: u64,
 }
 
 impl Model for FixedSink {
+    ghost use Rattle.std.specs.Prelude.{◌+◌, ◌≤◌, vec_capacity, vec_len};
     ghost use Rattle.lr_outside.specs.Memory.{BoundedStore};
 
     ghost Value = { BoundedStore };
 
-    ghost view = { λ it. record { held = it.bytes; room = it.room; faults = it.faults } };
+    ghost view = { λ it. record { held = it.bytes.items; room = it.room; faults = it.faults } };
+
+    ghost invariant = { λ it. vec_len it.bytes + it.room ≤ vec_capacity it.bytes };
 }
 
 impl FixedSink {
@@ -32,10 +34,7 @@ impl FixedSink {
     pub fn new(alloc: Global, room: u64) -> Result<FixedSink, NoMemory>
         ensures { IfOk result (λ sink. sink ≡ record { held = []; room = room; faults = 0 }) }
     {
-        let zeros = vec![in alloc; 0; room as usize]?;
-        let mut bytes = Rows::from_slice(alloc, zeros.as_slice())?;
-        // Clearing keeps the memory, so no write within the room asks for more.
-        bytes.clear();
+        let bytes = Vec::with_capacity(alloc, room as usize)?;
         Ok(FixedSink {
             bytes,
             room,
@@ -44,10 +43,10 @@ impl FixedSink {
     }
 
     /// The bytes held.
-    pub fn bytes(&self) -> &Rows<u8>
+    pub fn bytes(&self) -> &[u8]
         ensures { result.now ≡ self.now.held }
     {
-        &self.bytes
+        self.bytes.as_slice()
     }
 }
 
@@ -63,9 +62,9 @@ impl Sink for FixedSink {
         ensures none_taken { result ≡ Ok 0 → 0 < length piece.now →
             Rose self.old.faults self.new.faults }
 
-        // It takes as much as finds room, and fails where nothing of a piece does.
+        // It takes as much as finds room, and fails just where nothing of a piece does.
         ensures empty { piece.now ≡ [] → result ≡ Ok 0 }
-        ensures full { self.old.room ≡ 0 → 0 < length piece.now → IsErr result }
+        ensures full { IsErr result ↔ ((self.old.room ≡ 0) × (0 < length piece.now)) }
         ensures fitting { IfOk result (λ n. n ≡ min self.old.room (length piece.now)) }
         ensures ok { IfOk result (λ n. self.new ≡
             record self.old { held = self.old.held ++ take n piece.now; room = self.old.room - n }) }
@@ -79,9 +78,9 @@ impl Sink for FixedSink {
             return Err(Failed);
         }
         let count = piece.len().min(self.room as usize);
-        let Ok(()) = self.bytes.extend(&piece[..count]) else {
-            self.faults = self.faults.saturating_add(1);
-            return Err(Failed);
+        // What finds room finds memory too.
+        let Ok(()) = self.bytes.extend_from_slice(&piece[..count]) else {
+            unreachable!()
         };
         self.room -= count as u64;
         Ok(count)

@@ -55,7 +55,7 @@ fn a_sink_with_room_for_twenty_takes_twenty_of_twenty_five(rt: HostRuntime) -> R
         write_whole(&mut sink, b"1 tally 1 1 10\n1:").is_err(),
         true
     );
-    assert_eq!(rt; sink.bytes().as_slice(), b"lazyrep 1 tally 1 1 ".as_slice());
+    assert_eq!(rt; sink.bytes(), b"lazyrep 1 tally 1 1 ".as_slice());
     assert_eq!(rt; sink.write(b"").ok(), Some(0));
     assert_eq!(rt; sink.write(b"x").ok(), None);
     Ok(())

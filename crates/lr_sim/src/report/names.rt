@@ -9,9 +9,14 @@ use itoa::Buffer;
 use lr_base::{Actor, Cid, NoMemory, Spot, Text};
 
 // Adds the number in decimal behind `out`. Takes no memory but that of `out`.
+#[tactic(auto, using(std::proofs::lemmas::Fmt::decimal_digit))]
 pub fn put_number(number: u64, out: &mut Text) -> Result<(), NoMemory>
     ensures { OnOk result (out.new ≡ out.old ++ decimal number) }
 {
+    // Most numbers have one digit.
+    if number < 10 {
+        return out.push(b'0' + number as u8);
+    }
     let mut buffer = Buffer::new();
     out.extend(buffer.format(number).as_bytes())
 }

@@ -1,0 +1,70 @@
+-- What the program's words, texts and exit statuses mean.
+use Rattle.std.specs.Prelude.{◌≡◌, ◌⊎◌, ◌++◌, ◌∷◌, [], ℕ, List, Option, String, string_bytes, codes}
+use Rattle.std.specs.Fmt.{decimal}
+use Rattle.std.specs.Io.KnownBytes.{Appends}
+use Rattle.std.specs.declared.alloc.Global.{Global}
+use Rattle.lr_outside.specs.Faults.{Rose}
+use Rattle.lr_sim.specs.Ends.{SimEnded}
+use Rattle.lr_sim.specs.declared.command.SimEnd.{SimEnd}
+use Rattle.lr_sim.specs.declared.command.SimEnd.TheVariants.{Ok as Done, Script, ReadFault, WriteFault, NoMemory}
+use Rattle.lr_sim.specs.declared.script.Cause.{Cause}
+use Rattle.lr_sim.specs.declared.script.Cause.TheVariants.{TooLong, Unended, Byte, Header, Event, Fields, Number, Range, Op}
+
+-- there are two words, and the second is `sim`
+abbrev pub IsSim : List (String Global) → Type 0
+IsSim (program ∷ word ∷ []) = string_bytes word ≡ codes "sim"
+IsSim _ = ⊥
+
+-- a line of text
+abbrev pub line : List ℕ → List ℕ
+line text = text ++ 10 ∷ []
+
+-- what is told where the words ask for nothing that there is
+abbrev pub usage_text : List ℕ
+usage_text = line (codes "usage: lazyrep sim | run | gen NUMBER")
+
+-- what is wrong with a line, in words
+abbrev pub cause_text : Cause → List ℕ
+cause_text TooLong = codes "too long"
+cause_text Unended = codes "unended"
+cause_text Byte = codes "byte"
+cause_text Header = codes "header"
+cause_text Event = codes "event"
+cause_text Fields = codes "fields"
+cause_text Number = codes "number"
+cause_text Range = codes "range"
+cause_text Op = codes "op"
+
+-- the exit status of a simulation's end
+abbrev pub code_of : SimEnd → ℕ
+code_of Done = 0
+code_of (Script number cause) = 3
+code_of ReadFault = 4
+code_of WriteFault = 5
+code_of NoMemory = 6
+
+-- what is told of a simulation's end: nothing where it is done
+abbrev pub text_of : SimEnd → List ℕ
+text_of Done = []
+text_of (Script number cause) = codes "lazyrep: line " ++ (decimal number ++ (codes ": " ++ line (cause_text cause)))
+text_of ReadFault = line (codes "lazyrep: read fault")
+text_of WriteFault = line (codes "lazyrep: write fault")
+text_of NoMemory = line (codes "lazyrep: no memory")
+
+-- the exit status is one of those that the program has
+abbrev pub IsCode : ℕ → Type 0
+IsCode code = (code ≡ 0) ⊎ (code ≡ 2) ⊎ (code ≡ 3) ⊎ (code ≡ 4) ⊎ (code ≡ 5) ⊎ (code ≡ 6)
+
+-- this end was told on standard error where that didn't fail, or that there was no memory for it, and the status says which
+pub record Told (err_before err_now : ℕ) (told_before told_now : Option (List ℕ)) (end : SimEnd) (code : ℕ) : Type 0 where
+  pub end_told : SimEnd
+  pub same : (end_told ≡ end) ⊎ (end_told ≡ NoMemory)
+  pub status : code ≡ code_of end_told
+  pub told : ¬ (Rose err_before err_now) → Appends told_before told_now (text_of end_told)
+
+-- the exit status is that of an end of the simulation, and where standard error didn't fail that end was told there
+pub record SimStatus {Out : Type 0} (read_before read_now write_before write_now : ℕ) (out_before out_now : Out) (err_before err_now : ℕ) (told_before told_now : Option (List ℕ)) (code : ℕ) : Type 0 where
+  pub end : SimEnd
+  pub ended : SimEnded read_before read_now write_before write_now out_before out_now end
+  pub status : code ≡ code_of end
+  pub told : ¬ (Rose err_before err_now) → Appends told_before told_now (text_of end)
