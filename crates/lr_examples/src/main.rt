@@ -1,6 +1,8 @@
 //! Runs each script that standard input names, and says whether its history is the one in the file beside it.
 #![tactic(auto)]
 
+ghost use Rattle.std.specs.Prelude.{◌≡◌, ◌≢◌, codes};
+
 use lr_base::Rows;
 use lr_outside::{MemSink, MemSource};
 use lr_sim::{SimEnd, sim_command};
@@ -13,18 +15,21 @@ fn main(rt: HostRuntime) -> io::Result<()> {
         let name = name?;
         let script = fs::read_to_string(&rt, name.as_str())?;
         let want = fs::read_to_string(&rt, format!(in alloc; "{name}.stdout")?.as_str())?;
-        let verdict = compare(alloc, script.as_bytes(), want.as_bytes());
+        let verdict = match history_of(alloc, script.as_bytes()) {
+            Ok(history) => verdict(history.bytes().as_slice(), want.as_bytes()),
+            Err(_) => "no history",
+        };
         println!(rt; "{name}: {verdict}")?;
     }
     Ok(())
 }
 
-// What is printed of a script and the history that it should have.
-fn compare(alloc: Global, script: &[u8], want: &[u8]) -> &'static str {
-    let Ok(history) = history_of(alloc, script) else {
-        return "no history";
-    };
-    if history.bytes().as_slice() == want {
+// What is printed of a history, by the one that it should be.
+fn verdict(history: &[u8], want: &[u8]) -> &'static str
+    ensures same { history.now ≡ want.now → result.now ≡ codes "as wanted" }
+    ensures other { history.now ≢ want.now → result.now ≡ codes "differs" }
+{
+    if history == want {
         "as wanted"
     } else {
         "differs"
