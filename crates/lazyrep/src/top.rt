@@ -4,13 +4,19 @@ ghost use Rattle.std.specs.Io.KnownBytes.{Appends};
 ghost use Rattle.lr_outside.specs.Faults.{Rose};
 ghost use Rattle.lazyrep.specs.Top.{cause_text, IsCode, IsSim, SimStatus, text_of, Told, usage_text};
 
+#[cfg(test)]
+mod tests;
+
 use lr_outside::{Sink, Source, write_whole};
 use lr_sim::{Cause, SimEnd, sim_command};
 use std::alloc::{AllocError, Global};
 
 const USAGE: &[u8] = b"usage: lazyrep sim | run | gen NUMBER\n";
+
 const READ_FAULT: &[u8] = b"lazyrep: read fault\n";
+
 const WRITE_FAULT: &[u8] = b"lazyrep: write fault\n";
+
 const NO_MEMORY: &[u8] = b"lazyrep: no memory\n";
 
 /// How the program ended, as its exit status.
