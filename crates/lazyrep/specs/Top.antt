@@ -4,7 +4,8 @@ use Rattle.std.specs.Fmt.{decimal}
 use Rattle.std.specs.Io.KnownBytes.{Appends}
 use Rattle.std.specs.declared.alloc.Global.{Global}
 use Rattle.lr_outside.specs.Faults.{Rose}
-use Rattle.lr_sim.specs.Ends.{SimEnded}
+use Rattle.lr_base.specs.Tally.{tally}
+use Rattle.lr_sim.specs.Ends.{SimEnded, SimMeans}
 use Rattle.lr_sim.specs.declared.command.SimEnd.{SimEnd}
 use Rattle.lr_sim.specs.declared.command.SimEnd.TheVariants.{Ok as Done, Script, ReadFault, WriteFault, NoMemory}
 use Rattle.lr_sim.specs.declared.script.Cause.{Cause}
@@ -16,12 +17,12 @@ IsSim (program ∷ word ∷ []) = string_bytes word ≡ codes "sim"
 IsSim _ = ⊥
 
 -- a line of text
-abbrev pub line : List ℕ → List ℕ
-line text = text ++ 10 ∷ []
+abbrev pub text_line : List ℕ → List ℕ
+text_line text = text ++ 10 ∷ []
 
 -- what is told where the words ask for nothing that there is
 abbrev pub usage_text : List ℕ
-usage_text = line (codes "usage: lazyrep sim | run | gen NUMBER")
+usage_text = text_line (codes "usage: lazyrep sim | run | gen NUMBER")
 
 -- what is wrong with a line, in words
 abbrev pub cause_text : Cause → List ℕ
@@ -46,25 +47,26 @@ code_of NoMemory = 6
 -- what is told of a simulation's end: nothing where it is done
 abbrev pub text_of : SimEnd → List ℕ
 text_of Done = []
-text_of (Script number cause) = codes "lazyrep: line " ++ (decimal number ++ (codes ": " ++ line (cause_text cause)))
-text_of ReadFault = line (codes "lazyrep: read fault")
-text_of WriteFault = line (codes "lazyrep: write fault")
-text_of NoMemory = line (codes "lazyrep: no memory")
+text_of (Script number cause) = codes "lazyrep: line " ++ (decimal number ++ (codes ": " ++ text_line (cause_text cause)))
+text_of ReadFault = text_line (codes "lazyrep: read fault")
+text_of WriteFault = text_line (codes "lazyrep: write fault")
+text_of NoMemory = text_line (codes "lazyrep: no memory")
 
 -- the exit status is one of those that the program has
 abbrev pub IsCode : ℕ → Type 0
 IsCode code = (code ≡ 0) ⊎ (code ≡ 2) ⊎ (code ≡ 3) ⊎ (code ≡ 4) ⊎ (code ≡ 5) ⊎ (code ≡ 6)
 
--- this end was told on standard error where that didn't fail, or that there was no memory for it, and the status says which
+-- this end was told on standard error where that didn't fail, or that there was no memory for a script's fault, and the status says which
 pub record Told (err_before err_now : ℕ) (told_before told_now : Option (List ℕ)) (end : SimEnd) (code : ℕ) : Type 0 where
   pub end_told : SimEnd
-  pub same : (end_told ≡ end) ⊎ (end_told ≡ NoMemory)
+  pub same : (end_told ≡ end) ⊎ ((line : ℕ) × (cause : Cause) × (end ≡ Script line cause) × (end_told ≡ NoMemory))
   pub status : code ≡ code_of end_told
   pub told : ¬ (Rose err_before err_now) → Appends told_before told_now (text_of end_told)
 
--- the exit status is that of an end of the simulation, and where standard error didn't fail that end was told there
-pub record SimStatus {Out : Type 0} (read_before read_now write_before write_now : ℕ) (out_before out_now : Out) (err_before err_now : ℕ) (told_before told_now : Option (List ℕ)) (code : ℕ) : Type 0 where
+-- the exit status is that of an end of the simulation, which means what it says of the bytes left and held, and where standard error didn't fail that end was told there
+pub record SimStatus {Out : Type 0} (left_before left_now held_before held_now : Option (List ℕ)) (read_before read_now write_before write_now : ℕ) (out_before out_now : Out) (err_before err_now : ℕ) (told_before told_now : Option (List ℕ)) (code : ℕ) : Type 0 where
   pub end : SimEnd
+  pub meant : SimMeans tally left_before left_now held_before held_now end
   pub ended : SimEnded read_before read_now write_before write_now out_before out_now end
   pub status : code ≡ code_of end
   pub told : ¬ (Rose err_before err_now) → Appends told_before told_now (text_of end)

@@ -1,11 +1,12 @@
-pub mod InRange
 pub mod Calling
 pub mod Cuts
 pub mod EventRefusals
 pub mod Everywhere
 pub mod FaultLemmas
+pub mod InRange
 pub mod Printables
 pub mod PrintedLemmas
 pub mod ScriptRefusals
 pub mod ShownTexts
 pub mod Splits
+pub mod Writing

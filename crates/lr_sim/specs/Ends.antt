@@ -1,9 +1,16 @@
 -- How a simulation ends.
-use Rattle.std.specs.Prelude.{◌≡◌, ◌≤◌, ℕ}
+use Rattle.std.specs.Prelude.{◌≡◌, ◌<◌, ◌≤◌, ◌⊎◌, ℕ, List, [], Option, length}
+use Rattle.std.specs.Io.KnownBytes.{Appends, Consumes, IsAtEnd}
+use Rattle.lr_base.specs.Meaning.{Meaning}
+use Rattle.lr_base.specs.declared.events.Event.{Event}
 use Rattle.lr_outside.specs.Faults.{Rose}
+use Rattle.lr_sim.specs.Faults.{IsScriptFault}
+use Rattle.lr_sim.specs.Script.{IsScript}
+use Rattle.lr_sim.specs.Written.{HasPrinted, HasBegun}
 use Rattle.lr_sim.specs.declared.command.SimEnd.{SimEnd}
-use Rattle.lr_sim.specs.declared.command.SimEnd.TheVariants.{Script, ReadFault, WriteFault, NoMemory}
+use Rattle.lr_sim.specs.declared.command.SimEnd.TheVariants.{Ok as Done, Script, ReadFault, WriteFault, NoMemory}
 use Rattle.lr_sim.specs.declared.script.Cause.{Cause}
+use Rattle.lr_sim.specs.declared.script.Header.{Header}
 use Rattle.lr_sim.specs.declared.script.ScriptFault.{ScriptFault}
 use Rattle.lr_sim.specs.declared.script.ScriptFault.TheVariants.{Line, NoMemory as NoMemoryLeft}
 
@@ -11,6 +18,40 @@ use Rattle.lr_sim.specs.declared.script.ScriptFault.TheVariants.{Line, NoMemory 
 abbrev pub IsFault : ScriptFault → SimEnd → Type 0
 IsFault (Line line cause) end = end ≡ Script line cause
 IsFault NoMemoryLeft end = end ≡ NoMemory
+
+-- these bytes were read: the input to its end, or its first 8,388,609 bytes
+pub record HasRead (before now : Option (List ℕ)) (bytes : List ℕ) : Type 0 where
+  pub taken : Consumes before now bytes
+  pub most : length bytes ≤ 8388609
+  pub whole : length bytes < 8388609 → IsAtEnd now
+
+-- the bytes are a script, and the printed form of a history of just its events was written
+pub record HasRun {Value Op : Type 0} (m : Meaning Value Op) (bytes : List ℕ) (before now : Option (List ℕ)) : Type 0 where
+  pub header : Header
+  pub events : List (Event Op)
+  pub script : IsScript m header events bytes
+  pub printed_all : HasPrinted m header events before now []
+
+-- the bytes are a script, and the front of the printed form of a history of some first events was written
+pub record HasRunPart {Value Op : Type 0} (m : Meaning Value Op) (bytes : List ℕ) (before now : Option (List ℕ)) : Type 0 where
+  pub header : Header
+  pub events : List (Event Op)
+  pub script : IsScript m header events bytes
+  pub printed_part : HasBegun m header events before now
+
+-- what an end says of the bytes read and of what was written
+abbrev pub Means : {Value Op : Type 0} → Meaning Value Op → List ℕ → Option (List ℕ) → Option (List ℕ) → SimEnd → Type 0
+Means m bytes before now Done = HasRun m bytes before now
+Means m bytes before now (Script line cause) = IsScriptFault m bytes (Line line cause)
+Means m bytes before now ReadFault = ⊥
+Means m bytes before now WriteFault = HasRunPart m bytes before now
+Means m bytes before now NoMemory = Appends before now [] ⊎ HasRunPart m bytes before now
+
+-- bytes were read, and the end says of them what it means; a failed read says nothing, and want of memory may come before
+abbrev pub SimMeans : {Value Op : Type 0} → Meaning Value Op → Option (List ℕ) → Option (List ℕ) → Option (List ℕ) → Option (List ℕ) → SimEnd → Type 0
+SimMeans m left_before left_now before now ReadFault = Unit {0}
+SimMeans m left_before left_now before now NoMemory = Appends before now [] ⊎ ((bytes : List ℕ) × HasRead left_before left_now bytes × HasRunPart m bytes before now)
+SimMeans m left_before left_now before now end = (bytes : List ℕ) × HasRead left_before left_now bytes × Means m bytes before now end
 
 -- what each end says of the counts of faults of source and sink, and of the sink
 pub record SimEnded {Out : Type 0} (read_before read_now write_before write_now : ℕ) (out_before out_now : Out) (end : SimEnd) : Type 0 where

@@ -9,3 +9,4 @@ pub mod Script
 pub mod Shapes
 pub mod Texts
 pub mod Worlds
+pub mod Written

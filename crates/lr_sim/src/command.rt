@@ -1,9 +1,12 @@
 //! The command `sim`: reads a script to its end, runs it, and writes its history.
-ghost use Rattle.std.specs.Prelude.{ℕ, ◌≡◌, ◌≤◌, ◌≢◌, OnErr, length};
+ghost use Rattle.std.specs.Prelude.{ℕ, List, [], ◌≡◌, ◌≤◌, ◌≢◌, ◌++◌, OnOk, OnErr, length};
 ghost use Rattle.std.specs.List.{All};
+ghost use Rattle.lr_base.specs.Tally.{tally};
 ghost use Rattle.lr_outside.specs.Faults.{Rose};
-ghost use Rattle.lr_sim.specs.Ends.{IsFault, SimEnded};
-ghost use Rattle.lr_sim.specs.Script.{Fits, IsSetUp};
+ghost use Rattle.lr_sim.specs.Ends.{IsFault, Means, SimEnded, SimMeans};
+ghost use Rattle.lr_sim.specs.Script.{Fits, IsSetUp, line_of};
+ghost use Rattle.lr_sim.specs.Texts.{header_text};
+ghost use Rattle.lr_sim.specs.Written.{HasBegun, HasMoved, HasPrinted};
 
 use crate::report::{render_header, render_step};
 use crate::script::{Cause, Header, Name, ScriptFault, read_events, split_header};
@@ -36,6 +39,7 @@ pub enum SimEnd {
 
 /// Reads a script to its end, runs it, and writes its history.
 pub fn sim_command<R: Source, W: Sink>(alloc: Global, input: &mut R, out: &mut W) -> SimEnd
+    ensures meant { SimMeans tally (R.left input.old) (R.left input.new) (W.held out.old) (W.held out.new) result }
     ensures ended { SimEnded (R.faults input.old) (R.faults input.new) (W.faults out.old) (W.faults out.new) out.old out.new result }
 {
     let bytes = match read_up_to(alloc, input, MOST_INPUT) {
@@ -48,6 +52,7 @@ pub fn sim_command<R: Source, W: Sink>(alloc: Global, input: &mut R, out: &mut W
 
 // Runs the script that the bytes are.
 fn simulate<W: Sink>(alloc: Global, bytes: &[u8], out: &mut W) -> SimEnd
+    ensures meant { Means tally bytes.now (W.held out.old) (W.held out.new) result }
     ensures read { result ≢ SimEnd.ReadFault }
     ensures script { (line : ℕ) (cause : Cause) → result ≡ SimEnd.Script line cause → out.new ≡ out.old }
     ensures write { result ≡ SimEnd.WriteFault → Rose (W.faults out.old) (W.faults out.new) }
@@ -79,6 +84,8 @@ fn simulate_lines<S: Service, W: Sink>(
 ) -> SimEnd
     requires set_up { IsSetUp header.config }
     requires short { length lines.now ≤ 8388608 }
+    ensures meant { (bytes : List ℕ) → bytes ≡ line_of (header_text header) ++ lines.now → length bytes ≤ 8388608 →
+        Means S.meaning bytes (W.held out.old) (W.held out.new) result }
     ensures read { result ≢ SimEnd.ReadFault }
     ensures script { (line : ℕ) (cause : Cause) → result ≡ SimEnd.Script line cause → out.new ≡ out.old }
     ensures write { result ≡ SimEnd.WriteFault → Rose (W.faults out.old) (W.faults out.new) }
@@ -90,7 +97,7 @@ fn simulate_lines<S: Service, W: Sink>(
             Err(RunFault::Write) => SimEnd::WriteFault,
             Err(RunFault::NoMemory) => SimEnd::NoMemory,
         },
-        Err(fault) => refused(fault),
+        Err(line_fault) => refused(line_fault),
     }
 }
 
@@ -132,6 +139,8 @@ fn write_history<S: Service, W: Sink>(
 ) -> Result<(), RunFault>
     requires set_up { IsSetUp header.now.config }
     requires fit { All (Fits S.meaning header.now.config) events.now }
+    ensures whole { OnOk result (HasPrinted S.meaning header.now events.now (W.held out.old) (W.held out.new) []) }
+    ensures part { HasBegun S.meaning header.now events.now (W.held out.old) (W.held out.new) }
     ensures write { result ≡ Err RunFault.Write → Rose (W.faults out.old) (W.faults out.new) }
     ensures later { W.faults out.old ≤ W.faults out.new }
 {
@@ -150,6 +159,8 @@ fn write_history<S: Service, W: Sink>(
 
 // Writes the gathered text, if it is enough for a piece.
 fn write_full<W: Sink>(text: &mut Text, out: &mut W) -> Result<(), Failed>
+    ensures moved { OnOk result (HasMoved (W.held out.old) (W.held out.new) text.old text.new) }
+    ensures part { (left : List ℕ) × HasMoved (W.held out.old) (W.held out.new) text.old left }
     ensures cause { OnErr result (Rose (W.faults out.old) (W.faults out.new)) }
     ensures later { W.faults out.old ≤ W.faults out.new }
 {

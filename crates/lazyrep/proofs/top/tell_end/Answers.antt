@@ -1,5 +1,6 @@
-use Rattle.std.proofs.Common.{◌≡◌, ◌∙◌, List, ℕ, inl, refl, ap, sym, subst}
+use Rattle.std.proofs.Common.{◌≡◌, ◌∙◌, List, ℕ, inl, inr, refl, ap, sym, subst}
 use Rattle.std.specs.Io.KnownBytes.{Appends}
+use Rattle.lr_sim.specs.declared.command.SimEnd.TheVariants.{NoMemory}
 use Rattle.lazyrep.specs.Top.{code_of, text_of}
 use Rattle.lazyrep.proofs.top.tell_end.Goals as goal
 
@@ -11,4 +12,12 @@ returns-in-Ok-fault_line g c = record {
   told = λ quiet.
       let text : c.as_bytes.result.now ≡ text_of c.args.end = c.as_bytes.ensures.value ∙ c.in-Ok-fault_line.ensures ∙ sym (ap text_of c.in-Script.is) in
       subst (λ (bytes : List ℕ). Appends (g.E.Sink.held c.args.err.now) (g.E.Sink.held c.tell.new.err) bytes) text (c.tell.ensures.told quiet);
+}
+
+pub returns-in-Err : goal.returns-in-Err
+returns-in-Err g c = record {
+  end_told = NoMemory;
+  same = inr (c.in-Script.line, c.in-Script.cause, c.in-Script.is, refl);
+  status = c.tell-in-Err.ensures.code;
+  told = c.tell-in-Err.ensures.told;
 }

@@ -1,10 +1,12 @@
-use Rattle.std.proofs.Common.{◌≡◌, ◌≤◌}
+use Rattle.std.proofs.Common.{◌≡◌, ◌≤◌, take}
 use Rattle.lr_sim.specs.Worlds.{setup_of}
+use Rattle.lr_sim.specs.Written.{HasPrinted}
 use Rattle.lr_sim.proofs.command.write_history.Given as goal
 
--- the world is that of the header, and no fault was taken back
+-- the world is that of the header, the events so far are printed, and no fault was taken back
 abbrev pub invariant-loop-at : goal.invariant-loop-at
 invariant-loop-at g l = record {
   setup : setup_of l.world ≡ l.header.config;
+  printed : HasPrinted g.S.Service.meaning l.header (take l.at l.events) (g.W.Sink.held l.initial.out) (g.W.Sink.held l.out) l.text;
   later : g.W.Sink.faults l.initial.out ≤ g.W.Sink.faults l.out;
 }

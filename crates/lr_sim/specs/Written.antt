@@ -1,0 +1,28 @@
+-- How much of a history was written.
+use Rattle.std.specs.Prelude.{◌≡◌, ℕ, List, [], ◌∷◌, ◌++◌, map, take, Option}
+use Rattle.std.specs.Io.KnownBytes.{Appends}
+use Rattle.lr_base.specs.Meaning.{Meaning}
+use Rattle.lr_base.specs.declared.events.Event.{Event}
+use Rattle.lr_base.specs.declared.events.Step.{Step}
+use Rattle.lr_sim.specs.Printed.{printed}
+use Rattle.lr_sim.specs.declared.script.Header.{Header}
+
+-- a history of just these events was printed: what was written is the front of its text, and this is the rest
+pub record HasPrinted {Value Op : Type 0} (m : Meaning Value Op) (header : Header) (events : List (Event Op)) (before now : Option (List ℕ)) (rest : List ℕ) : Type 0 where
+  pub steps : List (Step Op)
+  pub same_events : map (λ step. step.event) steps ≡ events
+  pub written : List ℕ
+  pub appended : Appends before now written
+  pub text : printed m header steps ≡ written ++ rest
+
+-- the same of some first events
+pub record HasBegun {Value Op : Type 0} (m : Meaning Value Op) (header : Header) (events : List (Event Op)) (before now : Option (List ℕ)) : Type 0 where
+  pub count : ℕ
+  pub rest : List ℕ
+  pub printed_part : HasPrinted m header (take count events) before now rest
+
+-- some first bytes of a text were written, and this is left of it
+pub record HasMoved (before now : Option (List ℕ)) (text left : List ℕ) : Type 0 where
+  pub written : List ℕ
+  pub appended : Appends before now written
+  pub parts : text ≡ written ++ left
