@@ -1,3 +1,4 @@
 mod NumberLemmas
 mod Order
+mod StampLaws
 mod TallyLemmas

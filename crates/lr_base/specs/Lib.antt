@@ -1,5 +1,6 @@
 pub mod Config
 pub mod Kinds
+pub mod Lattice
 pub mod Meaning
 pub mod Rules
 pub mod Stamps

@@ -77,10 +77,10 @@ fresh_when None None = New
 abbrev pub fresh_of : {Value Op : Type 0} → ℕ → CausalState Value Op → Cid → ℕ → Fresh
 fresh_of delta state cid time =
     if is_late time delta state.clock
-      then Late time state.clock
-      else fresh_when
-        (taken_before (known_of state.calls cid) (find (λ u. same_cid u.cid cid) state.updates))
-        (find (λ ack. same_cid ack.cid cid) state.acks)
+    then Late time state.clock
+    else fresh_when
+    (taken_before (known_of state.calls cid) (find (λ u. same_cid u.cid cid) state.updates))
+    (find (λ ack. same_cid ack.cid cid) state.acks)
 
 -- the list with one more update, in the order of spots
 abbrev pub put_update : {Op : Type 0} → LogUpdate Op → List (LogUpdate Op) → List (LogUpdate Op)
@@ -133,8 +133,8 @@ abbrev pub take_ready : {Op : Type 0} → List ℕ → List (LogUpdate Op) → O
 take_ready val_ts [] = None
 take_ready val_ts (u ∷ todo) =
     if stamp_le u.prev val_ts
-      then Some (u, todo)
-      else option_map (λ taken. (taken.0, u ∷ taken.1)) (take_ready val_ts todo)
+    then Some (u, todo)
+    else option_map (λ taken. (taken.0, u ∷ taken.1)) (take_ready val_ts todo)
 
 -- applying the first update whose causes are applied, again and again, so many times at the most
 abbrev pub apply_ready : {Value Op : Type 0} → Meaning Value Op → ℕ → List (LogUpdate Op) → Progress Value → Progress Value

@@ -2,6 +2,7 @@
 #![tactic(auto)]
 
 mod events;
+mod laws;
 pub mod lr_service;
 mod messages;
 mod names;
@@ -12,6 +13,7 @@ pub mod svc_tally;
 mod word;
 
 pub use events::{Event, Outcome, Refusal, Sent, StateLine, Step};
+pub use laws::{join_is_least, order_of_stamps, set_part_changes_one};
 pub use messages::{Call, Fresh, Known, LogAck, LogUpdate, Message};
 pub use names::{Actor, Cid, Config, Spot};
 pub use numbers::read_number;

@@ -2,8 +2,8 @@
 ghost use Rattle.std.specs.Prelude.{⊤, ◌≡◌, ◌<◌, length, IfOk};
 ghost use Rattle.lr_base.specs.Rules.{stamp_of};
 
-use crate::names::{Cid, Spot};
 use crate::lr_service::Operation;
+use crate::names::{Cid, Spot};
 use crate::rows::{NoMemory, Text};
 use crate::stamp::Stamp;
 use std::alloc::AllocError;

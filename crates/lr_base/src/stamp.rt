@@ -124,3 +124,6 @@ fn is_at_most(own: &[u64], other: &[u64]) -> bool
     }
     true
 }
+
+#[cfg(test)]
+mod tests;

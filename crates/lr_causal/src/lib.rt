@@ -13,3 +13,6 @@ pub use causal::Causal;
 pub use lateness::late;
 pub use log::{LOG_ROOM, Log};
 pub use value::Value;
+
+#[cfg(test)]
+mod tests;

@@ -1,16 +1,15 @@
 -- Histories that grow by a step, and texts that are written piece by piece.
-use Rattle.std.proofs.Common.{◌≡◌, ◌+◌, ◌<◌, ◌≤◌, ℕ, zero, suc, List, [], ◌∷◌, ◌++◌, length, map, take, drop, get_or, refl, sym, ap, ◌∙◌, append_assoc, append-nil, subst, arith, add-zero, take-append-drop}
+use Rattle.std.proofs.Common.{◌≡◌, ◌+◌, ◌<◌, ◌≤◌, ℕ, List, [], ◌∷◌, ◌++◌, length, take, drop, get_or, refl, sym, ap, ◌∙◌, append_assoc, append-nil, subst, arith, take-append-drop}
 use Rattle.std.proofs.lemmas.List.{map-append, length-map, length-take-le, take_all, take_more}
 use Rattle.std.specs.Prelude.{Option}
 use Rattle.std.specs.Io.KnownBytes.{Appends}
 use Rattle.std.proofs.KnownBytes.{Appends-nil, Appends-trans}
 use Rattle.lr_base.specs.Meaning.{Meaning}
-use Rattle.lr_base.specs.declared.names.Config.{Config}
 use Rattle.lr_base.specs.declared.events.Event.{Event}
 use Rattle.lr_base.specs.declared.events.Outcome.{Outcome}
 use Rattle.lr_base.specs.declared.events.Step.{Step}
 use Rattle.lr_sim.proofs.PrintedLemmas.{steps_text-more}
-use Rattle.lr_sim.specs.Printed.{printed, step_text, steps_text}
+use Rattle.lr_sim.specs.Printed.{step_text, steps_text}
 use Rattle.lr_sim.specs.Script.{line_of}
 use Rattle.lr_sim.specs.Texts.{header_text}
 use Rattle.lr_sim.specs.Written.{HasPrinted, HasBegun, HasMoved}
