@@ -1,3 +1,4 @@
+pub mod Ascending
 pub mod Ends
 pub mod Faults
 pub mod Fields
@@ -7,6 +8,7 @@ pub mod Printed
 pub mod Replicas
 pub mod Script
 pub mod Shapes
+pub mod Steps
 pub mod Texts
 pub mod Worlds
 pub mod Written

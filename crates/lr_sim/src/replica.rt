@@ -24,19 +24,24 @@ pub struct Replica<S: Service> {
 }
 
 impl<S: Service> Replica<S> {
-    ghost use Rattle.std.specs.Prelude.{◌≡◌, ◌+◌, ◌<◌, length, IsTrue, IfOk};
+    ghost use Rattle.std.specs.Prelude.{◌≡◌, ◌+◌, ◌<◌, None, length, nat_lt, IsTrue, IfOk, OnOk};
     ghost use Rattle.lr_base.specs.Config.{IsValid};
     ghost use Rattle.lr_base.specs.Kinds.{IsQuery, IsUpdate};
     ghost use Rattle.lr_base.specs.declared.names.Actor.TheVariants.{Client};
     ghost use Rattle.lr_causal.specs.State.{config_of};
     ghost use Rattle.lr_sim.specs.Shapes.{AllFitting, IsShaped};
-    ghost use Rattle.lr_sim.specs.Replicas.{setting_of};
+    ghost use Rattle.lr_base.specs.Rules.{first_state, fresh_of};
+    ghost use Rattle.lr_sim.specs.Replicas.{number_of, replica_state, setting_of};
+    ghost use Rattle.lr_sim.specs.Steps.{call_taken, has_number, has_room, query_held, query_taken, taken, update_taken};
+    ghost use Rattle.lr_base.specs.Rules.{answer_of};
 
     /// A replica at which nothing has happened.
     pub fn new(alloc: Global, config: Config, me: u8) -> Result<Self, NoMemory>
         requires valid { IsValid config }
         requires own_place { me < config.replicas }
-        ensures { IfOk result (λ made. setting_of made ≡ config) }
+        ensures setting { IfOk result (λ made. setting_of made ≡ config) }
+        ensures number { IfOk result (λ made. number_of made ≡ me) }
+        ensures state { IfOk result (λ made. replica_state made ≡ first_state S.meaning config.replicas (config.replicas + 1)) }
     {
         let causal = Causal::new(alloc, config, me)?;
         Ok(Replica { causal })
@@ -47,6 +52,9 @@ impl<S: Service> Replica<S> {
         requires { IsShaped S.Op.kind_of (setting_of self.old) message.now }
         ensures acts { IfOk result (λ acts. AllFitting S.Op.kind_of (setting_of self.old) acts.items) }
         ensures setting { setting_of self.new ≡ setting_of self.old }
+        ensures number { number_of self.new ≡ number_of self.old }
+        ensures did { IfOk result (λ acts. acts.items ≡ (taken S.meaning (setting_of self.old) (number_of self.old) (replica_state self.old) message.now).acts) }
+        ensures state { OnOk result (replica_state self.new ≡ (taken S.meaning (setting_of self.old) (number_of self.old) (replica_state self.old) message.now).state) }
     {
         match message {
             Message::Update { call, time } => self.take_update(call, *time),
@@ -67,6 +75,9 @@ impl<S: Service> Replica<S> {
         requires update { IsUpdate (S.Op.kind_of call.now.op) }
         ensures acts { IfOk result (λ acts. AllFitting S.Op.kind_of (setting_of self.old) acts.items) }
         ensures setting { setting_of self.new ≡ setting_of self.old }
+        ensures number { number_of self.new ≡ number_of self.old }
+        ensures did { IfOk result (λ acts. acts.items ≡ (update_taken S.meaning (setting_of self.old).replicas (number_of self.old) (replica_state self.old) call.now (fresh_of (setting_of self.old).delta (replica_state self.old) call.now.cid time)).acts) }
+        ensures state { OnOk result (replica_state self.new ≡ (update_taken S.meaning (setting_of self.old).replicas (number_of self.old) (replica_state self.old) call.now (fresh_of (setting_of self.old).delta (replica_state self.old) call.now.cid time)).state) }
     {
         match self.causal.fresh(call.cid, time) {
             Fresh::Late { time, clock } => refused(self.allocator(), Refusal::Late { time, clock }),
@@ -87,6 +98,9 @@ impl<S: Service> Replica<S> {
         requires update { IsUpdate (S.Op.kind_of call.now.op) }
         ensures acts { IfOk result (λ acts. AllFitting S.Op.kind_of (setting_of self.old) acts.items) }
         ensures setting { setting_of self.new ≡ setting_of self.old }
+        ensures number { number_of self.new ≡ number_of self.old }
+        ensures did { IfOk result (λ acts. acts.items ≡ (call_taken S.meaning (setting_of self.old).replicas (number_of self.old) (replica_state self.old) call.now (has_room (replica_state self.old)) (has_number (number_of self.old) (replica_state self.old))).acts) }
+        ensures state { OnOk result (replica_state self.new ≡ (call_taken S.meaning (setting_of self.old).replicas (number_of self.old) (replica_state self.old) call.now (has_room (replica_state self.old)) (has_number (number_of self.old) (replica_state self.old))).state) }
     {
         if !self.causal.log().has_room() {
             return refused(self.allocator(), Refusal::FullLog);
@@ -108,6 +122,9 @@ impl<S: Service> Replica<S> {
         requires query { IsQuery (S.Op.kind_of call.now.op) }
         ensures acts { IfOk result (λ acts. AllFitting S.Op.kind_of (setting_of self.old) acts.items) }
         ensures setting { setting_of self.new ≡ setting_of self.old }
+        ensures number { number_of self.new ≡ number_of self.old }
+        ensures did { IfOk result (λ acts. acts.items ≡ (query_taken (replica_state self.old) call.now (answer_of S.meaning (replica_state self.old).value (replica_state self.old).val_ts call.now.prev call.now.op)).acts) }
+        ensures state { OnOk result (replica_state self.new ≡ (query_taken (replica_state self.old) call.now (answer_of S.meaning (replica_state self.old).value (replica_state self.old).val_ts call.now.prev call.now.op)).state) }
     {
         match self.causal.read(&call.prev, &call.op)? {
             Some(text) => {
@@ -121,6 +138,9 @@ impl<S: Service> Replica<S> {
     fn hold(&mut self, call: &Call<S::Op>) -> Result<Acts<S::Op>, NoMemory>
         ensures acts { IfOk result (λ acts. AllFitting S.Op.kind_of (setting_of self.old) acts.items) }
         ensures setting { setting_of self.new ≡ setting_of self.old }
+        ensures number { number_of self.new ≡ number_of self.old }
+        ensures did { IfOk result (λ acts. acts.items ≡ (query_taken (replica_state self.old) call.now None).acts) }
+        ensures state { OnOk result (replica_state self.new ≡ (query_taken (replica_state self.old) call.now None).state) }
     {
         if self.causal.held().len() >= HELD_ROOM {
             return refused(self.allocator(), Refusal::FullHeld);
