@@ -6,7 +6,9 @@ pub mod FaultLemmas
 pub mod InRange
 pub mod Printables
 pub mod PrintedLemmas
+pub mod RunLemmas
 pub mod ScriptRefusals
 pub mod ShownTexts
+pub mod SortedCalls
 pub mod Splits
 pub mod Writing

@@ -1,6 +1,6 @@
 -- Histories that grow by a step, and texts that are written piece by piece.
 use Rattle.std.proofs.Common.{◌≡◌, ◌+◌, ◌<◌, ◌≤◌, ℕ, List, [], ◌∷◌, ◌++◌, length, take, drop, get_or, refl, sym, ap, ◌∙◌, append_assoc, append-nil, subst, arith, take-append-drop}
-use Rattle.std.proofs.lemmas.List.{map-append, length-map, length-take-le, take_all, take_more}
+use Rattle.std.proofs.lemmas.List.{length-take-le, take_all, take_more}
 use Rattle.std.specs.Prelude.{Option}
 use Rattle.std.specs.Io.KnownBytes.{Appends}
 use Rattle.std.proofs.KnownBytes.{Appends-nil, Appends-trans}
@@ -9,7 +9,9 @@ use Rattle.lr_base.specs.declared.events.Event.{Event}
 use Rattle.lr_base.specs.declared.events.Outcome.{Outcome}
 use Rattle.lr_base.specs.declared.events.Step.{Step}
 use Rattle.lr_sim.proofs.PrintedLemmas.{steps_text-more}
+use Rattle.lr_sim.proofs.RunLemmas.{length-steps_from, run_after-more, steps_from-more}
 use Rattle.lr_sim.specs.Printed.{step_text, steps_text}
+use Rattle.lr_sim.specs.Runs.{RunState, first_run, run_after, stepped, steps_from}
 use Rattle.lr_sim.specs.Script.{line_of}
 use Rattle.lr_sim.specs.Texts.{header_text}
 use Rattle.lr_sim.specs.Written.{HasPrinted, HasBegun, HasMoved}
@@ -19,29 +21,29 @@ module _ {Value Op : Type 0} (m : Meaning Value Op) where
   -- before the first event only the header is to be written
   pub printed-none : (header : Header) (before : Option (List ℕ)) (text : List ℕ) → text ≡ line_of (header_text header) → HasPrinted m header [] before before text
   printed-none header before text is = record {
-    steps = [];
-    same_events = refl;
     written = [];
     appended = Appends-nil before;
     text = append-nil (line_of (header_text header)) ∙ sym is;
   }
 
   -- one more event is printed behind what is to be written
-  pub printed-more : (header : Header) (events : List (Event Op)) (event : Event Op) (outcomes : List Outcome) (number : ℕ) (before now : Option (List ℕ)) (rest more : List ℕ) → number ≡ 1 + length events → more ≡ rest ++ step_text m header.config number event outcomes → HasPrinted m header events before now rest → HasPrinted m header (events ++ event ∷ []) before now more
-  printed-more header events event outcomes number before now rest more at is p =
+  pub printed-more : (header : Header) (events : List (Event Op)) (event : Event Op) (outcomes : List Outcome) (number : ℕ) (before now : Option (List ℕ)) (rest more : List ℕ) → outcomes ≡ (stepped m (run_after m (first_run m header.config) events) event).outcomes → number ≡ 1 + length events → more ≡ rest ++ step_text m header.config number event outcomes → HasPrinted m header events before now rest → HasPrinted m header (events ++ event ∷ []) before now more
+  printed-more header events event outcomes number before now rest more did at is p =
+      let run = first_run m header.config in
       let step : Step Op = record { event = event; outcomes = outcomes } in
       let head = line_of (header_text header) in
-      let own = steps_text m header.config 1 p.steps in
-      let long : length p.steps ≡ length events = sym (length-map p.steps (λ (s : Step Op). s.event)) ∙ ap length p.same_events in
-      let count : 1 + length p.steps ≡ number = omega arith in
+      let steps = steps_from m run events in
+      let own = steps_text m header.config 1 steps in
+      let long : length steps ≡ length events = length-steps_from m run events in
+      let count : 1 + length steps ≡ number = omega arith in
       record {
-        steps = p.steps ++ step ∷ [];
-        same_events = map-append (λ (s : Step Op). s.event) p.steps (step ∷ []) ∙ ap (λ (xs : List (Event Op)). xs ++ event ∷ []) p.same_events;
         written = p.written;
         appended = p.appended;
         text =
-            ap (λ (xs : List ℕ). head ++ xs) (steps_text-more m header.config 1 p.steps step)
-            ∙ sym (append_assoc head own (step_text m header.config (1 + length p.steps) event outcomes))
+            ap (λ (all : List (Step Op)). head ++ steps_text m header.config 1 all) (steps_from-more m run events event)
+            ∙ (λ k. head ++ steps_text m header.config 1 (steps ++ record { event = event; outcomes = sym did k } ∷ []))
+            ∙ ap (λ (xs : List ℕ). head ++ xs) (steps_text-more m header.config 1 steps step)
+            ∙ sym (append_assoc head own (step_text m header.config (1 + length steps) event outcomes))
             ∙ ap (λ (n : ℕ). (head ++ own) ++ step_text m header.config n event outcomes) count
             ∙ ap (λ (xs : List ℕ). xs ++ step_text m header.config number event outcomes) p.text
             ∙ append_assoc p.written rest (step_text m header.config number event outcomes)
@@ -51,20 +53,25 @@ module _ {Value Op : Type 0} (m : Meaning Value Op) where
   -- some of what is to be written is written
   pub printed-moved : (header : Header) (events : List (Event Op)) (before now next : Option (List ℕ)) (rest left : List ℕ) → HasMoved now next rest left → HasPrinted m header events before now rest → HasPrinted m header events before next left
   printed-moved header events before now next rest left moved p = record {
-    steps = p.steps;
-    same_events = p.same_events;
     written = p.written ++ moved.written;
     appended = Appends-trans before now next p.written moved.written p.appended moved.appended;
     text = p.text ∙ ap (λ (xs : List ℕ). p.written ++ xs) moved.parts ∙ sym (append_assoc p.written moved.written left);
   }
 
+  -- the first events up to this one are those before it and this one
+  pub take-next : (events : List (Event Op)) (place : ℕ) (event : Event Op) → place < length events → event ≡ get_or events place event → take (place + 1) events ≡ take place events ++ event ∷ []
+  take-next events place event within is = take_more events place event within ∙ ap (λ (e : Event Op). take place events ++ e ∷ []) (sym is)
+
   -- the same of one more of the events
-  pub printed-next : (header : Header) (events : List (Event Op)) (place : ℕ) (event : Event Op) (outcomes : List Outcome) (number : ℕ) (before now : Option (List ℕ)) (rest more : List ℕ) → place < length events → event ≡ get_or events place event → number ≡ place + 1 → more ≡ rest ++ step_text m header.config number event outcomes → HasPrinted m header (take place events) before now rest → HasPrinted m header (take (place + 1) events) before now more
-  printed-next header events place event outcomes number before now rest more within is count text p =
-      let front : take (place + 1) events ≡ take place events ++ event ∷ [] = take_more events place event within ∙ ap (λ (e : Event Op). take place events ++ e ∷ []) (sym is) in
+  pub printed-next : (header : Header) (events : List (Event Op)) (place : ℕ) (event : Event Op) (outcomes : List Outcome) (number : ℕ) (before now : Option (List ℕ)) (rest more : List ℕ) → outcomes ≡ (stepped m (run_after m (first_run m header.config) (take place events)) event).outcomes → place < length events → event ≡ get_or events place event → number ≡ place + 1 → more ≡ rest ++ step_text m header.config number event outcomes → HasPrinted m header (take place events) before now rest → HasPrinted m header (take (place + 1) events) before now more
+  printed-next header events place event outcomes number before now rest more did within is count text p =
       let within' : place ≤ length events = omega arith in
       let long : length (take place events) ≡ place = length-take-le place events within' in
-      rw front (printed-more header (take place events) event outcomes number before now rest more (omega arith) text p)
+      rw (take-next events place event within is) (printed-more header (take place events) event outcomes number before now rest more did (omega arith) text p)
+
+  -- the run after one more of the events
+  pub run-next : (header : Header) (events : List (Event Op)) (place : ℕ) (event : Event Op) (run : RunState Value Op) → run ≡ (stepped m (run_after m (first_run m header.config) (take place events)) event).run → place < length events → event ≡ get_or events place event → run ≡ run_after m (first_run m header.config) (take (place + 1) events)
+  run-next header events place event run did within is = rw (take-next events place event within is) (did ∙ sym (run_after-more m (first_run m header.config) (take place events) event))
 
   -- before the first write nothing of the history is written
   pub begun-none : (header : Header) (events : List (Event Op)) (before : Option (List ℕ)) → HasBegun m header events before before

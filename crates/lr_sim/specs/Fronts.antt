@@ -1,5 +1,5 @@
 -- What contracts see of a front end, and what its commands do.
-use Rattle.std.specs.Prelude.{◌+◌, ℕ, Bool, false, max, List, Option, Some, None, if◌then◌else◌}
+use Rattle.std.specs.Prelude.{◌+◌, ℕ, Bool, false, max, replicate, List, Option, Some, None, if◌then◌else◌}
 use Rattle.lr_base.specs.Rules.{same_cid}
 use Rattle.lr_base.specs.Stamps.{join}
 use Rattle.lr_base.specs.declared.lr_service.Kind.{Kind}
@@ -15,6 +15,14 @@ pub record FrontState : Type 0 where
   pub label : List ℕ
   pub calls : ℕ
   pub open_call : Option Cid
+
+-- a front end that has made no call
+abbrev pub new_front : ℕ → ℕ → FrontState
+new_front client parts = record { client = client; clock = 0; label = replicate parts 0; calls = 0; open_call = None }
+
+-- a front end after a clock reading
+abbrev pub clock_read : ℕ → FrontState → FrontState
+clock_read reading front = record front { clock = max front.clock reading }
 
 -- the call that comes next
 abbrev pub next_cid : FrontState → Cid

@@ -1,18 +1,42 @@
 -- What contracts see of a replica in the simulator.
-use Rattle.std.specs.Prelude.{ℕ}
-use Rattle.lr_base.specs.Rules.{CausalState}
+use Rattle.std.specs.Prelude.{◌≡◌, ℕ, ◌+◌, map, List, [], Option}
+use Rattle.std.specs.List.{slice_get}
+use Rattle.std.specs.Option.{ForSome}
+use Rattle.lr_base.specs.Meaning.{Meaning}
+use Rattle.lr_base.specs.Rules.{CausalState, first_state}
+use Rattle.lr_base.specs.declared.events.StateLine.{StateLine}
 use Rattle.lr_base.specs.declared.names.Config.{Config}
-use Rattle.lr_causal.specs.State.{config_of, me_of, state_of}
-use Rattle.lr_sim.specs.declared.replica.Replica.{Replica}
+use Rattle.lr_sim.specs.Ascending.{ascending}
 
--- what the replica's run is set up with
-abbrev pub setting_of : {S Op : Type 0} {g : _} {h : _} → Replica S Op g h → Config
-setting_of r = config_of r.causal
+-- what the run is set up with, which replica it is, and its state
+pub record ReplicaState (Value Op : Type 0) : Type 0 where
+  pub config : Config
+  pub me : ℕ
+  pub causal : CausalState Value Op
 
--- which replica it is
-abbrev pub number_of : {S Op : Type 0} {g : _} {h : _} → Replica S Op g h → ℕ
-number_of r = me_of r.causal
+-- a replica at which nothing has happened
+abbrev pub first_replica : {Value Op : Type 0} → Meaning Value Op → Config → ℕ → ReplicaState Value Op
+first_replica m config me = record { config = config; me = me; causal = first_state m config.replicas (config.replicas + 1) }
 
--- the replica's state, as the rules see it
-abbrev pub replica_state : {S Op : Type 0} {g : _} {h : _} → Replica S Op g h → CausalState S Op
-replica_state r = state_of r.causal
+-- a replica of this run, at its place
+pub record IsReplica {Value Op : Type 0} (config : Config) (place : ℕ) (replica : ReplicaState Value Op) : Type 0 where
+  pub setting : replica.config ≡ config
+  pub number : replica.me ≡ place
+
+-- there is each replica at its place
+abbrev pub AllReplicas : {Value Op : Type 0} → Config → List (ReplicaState Value Op) → Type 0
+AllReplicas config replicas = (k : ℕ) → ForSome (slice_get replicas k) (IsReplica config k)
+
+-- what is printed of a replica's state
+abbrev pub state_line_of : {Value Op : Type 0} → ReplicaState Value Op → StateLine
+state_line_of replica = record {
+  replica = replica.me;
+  view = 0;
+  clock = replica.causal.clock;
+  received = replica.causal.rep_ts;
+  log = map (λ u. u.spot) replica.causal.updates;
+  acks = map (λ a. a.spot) replica.causal.acks;
+  calls = ascending (map (λ e. e.0) replica.causal.calls);
+  held = map (λ c. c.cid) replica.causal.held;
+  marks = [];
+}

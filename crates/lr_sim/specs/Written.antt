@@ -1,19 +1,17 @@
 -- How much of a history was written.
-use Rattle.std.specs.Prelude.{◌≡◌, ℕ, List, ◌++◌, map, take, Option}
+use Rattle.std.specs.Prelude.{◌≡◌, ℕ, List, ◌++◌, take, Option}
 use Rattle.std.specs.Io.KnownBytes.{Appends}
 use Rattle.lr_base.specs.Meaning.{Meaning}
 use Rattle.lr_base.specs.declared.events.Event.{Event}
-use Rattle.lr_base.specs.declared.events.Step.{Step}
 use Rattle.lr_sim.specs.Printed.{printed}
+use Rattle.lr_sim.specs.Runs.{history_of}
 use Rattle.lr_sim.specs.declared.script.Header.{Header}
 
--- a history of just these events was printed: what was written is the front of its text, and this is the rest
+-- the history that these events make was printed: what was written is the front of its text, and this is the rest
 pub record HasPrinted {Value Op : Type 0} (m : Meaning Value Op) (header : Header) (events : List (Event Op)) (before now : Option (List ℕ)) (rest : List ℕ) : Type 0 where
-  pub steps : List (Step Op)
-  pub same_events : map (λ step. step.event) steps ≡ events
   pub written : List ℕ
   pub appended : Appends before now written
-  pub text : printed m header steps ≡ written ++ rest
+  pub text : printed m header (history_of m header.config events) ≡ written ++ rest
 
 -- the same of some first events
 pub record HasBegun {Value Op : Type 0} (m : Meaning Value Op) (header : Header) (events : List (Event Op)) (before now : Option (List ℕ)) : Type 0 where

@@ -1,7 +1,7 @@
 //! A client's side of its calls.
 ghost use Rattle.std.specs.Prelude.{◌≡◌, ◌↔◌, ◌+◌, ◌<◌, ◌^◌, None, Some, max, length, replicate, IfOk, IsErrOf, ◌≢◌, ◌≤◌};
 ghost use Rattle.lr_base.specs.Stamps.{join};
-ghost use Rattle.lr_sim.specs.Fronts.{FrontState, called, reply_taken, message_of};
+ghost use Rattle.lr_sim.specs.Fronts.{FrontState, called, clock_read, message_of, new_front, reply_taken};
 
 use lr_base::lr_service::{Kind, Operation};
 use lr_base::{Call, Cid, Message, NoMemory, Stamp};
@@ -55,7 +55,7 @@ impl Front {
     pub fn new(client: u32, parts: u8) -> Self
         requires some { 2 ≤ parts }
         requires most { parts ≤ 10 }
-        ensures { result ≡ record { client = client; clock = 0; label = replicate parts 0; calls = 0; open_call = None } }
+        ensures { result ≡ new_front client parts }
     {
         Front {
             client,
@@ -77,6 +77,8 @@ impl Front {
         ensures ok { IfOk result (λ message. (self.old.open_call ≡ None) × (self.new ≡ called reading self.old) × (message ≡ message_of kind self.old reading op.now)) }
         ensures unfinished { (cid : Cid) → (IsErrOf result (CallFault.Unfinished cid) ↔ (self.old.open_call ≡ Some cid)) }
         ensures worn { IsErrOf result CallFault.Worn ↔ ((self.old.open_call ≡ None) × (self.old.calls ≡ 2 ^ 62)) }
+        ensures unfinished_clock { (cid : Cid) → IsErrOf result (CallFault.Unfinished cid) → self.new ≡ clock_read reading self.old }
+        ensures worn_clock { IsErrOf result CallFault.Worn → self.new ≡ clock_read reading self.old }
         ensures label { self.new.label ≡ self.old.label }
         ensures client { self.new.client ≡ self.old.client }
         ensures no_memory { IsErrOf result CallFault.NoMemory → self.new ≡ self.old }

@@ -10,6 +10,7 @@ use lr_base::{
 };
 use lr_causal::Causal;
 use std::alloc::Global;
+use std::marker::Model;
 
 // How many queries a replica holds at the most.
 const HELD_ROOM: usize = 1024;
@@ -23,25 +24,31 @@ pub struct Replica<S: Service> {
     causal: Causal<S>,
 }
 
+impl<S: Service> Model for Replica<S> {
+    ghost use Rattle.lr_causal.specs.State.{config_of, me_of, state_of};
+    ghost use Rattle.lr_sim.specs.Replicas.{ReplicaState};
+
+    ghost Value = { ReplicaState S S.Op };
+
+    ghost view = { λ it. record { config = config_of it.causal; me = me_of it.causal; causal = state_of it.causal } };
+}
+
 impl<S: Service> Replica<S> {
-    ghost use Rattle.std.specs.Prelude.{◌≡◌, ◌+◌, ◌<◌, None, length, nat_lt, IsTrue, IfOk, OnOk};
+    ghost use Rattle.std.specs.Prelude.{◌≡◌, ◌+◌, ◌<◌, None, length, map, IsTrue, IfOk, OnOk};
     ghost use Rattle.lr_base.specs.Config.{IsValid};
     ghost use Rattle.lr_base.specs.Kinds.{IsQuery, IsUpdate};
     ghost use Rattle.lr_base.specs.declared.names.Actor.TheVariants.{Client};
-    ghost use Rattle.lr_causal.specs.State.{config_of};
+    ghost use Rattle.lr_sim.specs.Ascending.{ascending};
     ghost use Rattle.lr_sim.specs.Shapes.{AllFitting, IsShaped};
-    ghost use Rattle.lr_base.specs.Rules.{first_state, fresh_of};
-    ghost use Rattle.lr_sim.specs.Replicas.{number_of, replica_state, setting_of};
+    ghost use Rattle.lr_base.specs.Rules.{answer_of, fresh_of};
+    ghost use Rattle.lr_sim.specs.Replicas.{first_replica, state_line_of};
     ghost use Rattle.lr_sim.specs.Steps.{call_taken, has_number, has_room, query_held, query_taken, taken, update_taken};
-    ghost use Rattle.lr_base.specs.Rules.{answer_of};
 
     /// A replica at which nothing has happened.
     pub fn new(alloc: Global, config: Config, me: u8) -> Result<Self, NoMemory>
         requires valid { IsValid config }
         requires own_place { me < config.replicas }
-        ensures setting { IfOk result (λ made. setting_of made ≡ config) }
-        ensures number { IfOk result (λ made. number_of made ≡ me) }
-        ensures state { IfOk result (λ made. replica_state made ≡ first_state S.meaning config.replicas (config.replicas + 1)) }
+        ensures { IfOk result (λ made. made ≡ first_replica S.meaning config me) }
     {
         let causal = Causal::new(alloc, config, me)?;
         Ok(Replica { causal })
@@ -49,12 +56,12 @@ impl<S: Service> Replica<S> {
 
     /// Takes a message that was sent to it.
     pub fn take(&mut self, message: &Message<S::Op>) -> Result<Acts<S::Op>, NoMemory>
-        requires { IsShaped S.Op.kind_of (setting_of self.old) message.now }
-        ensures acts { IfOk result (λ acts. AllFitting S.Op.kind_of (setting_of self.old) acts.items) }
-        ensures setting { setting_of self.new ≡ setting_of self.old }
-        ensures number { number_of self.new ≡ number_of self.old }
-        ensures did { IfOk result (λ acts. acts.items ≡ (taken S.meaning (setting_of self.old) (number_of self.old) (replica_state self.old) message.now).acts) }
-        ensures state { OnOk result (replica_state self.new ≡ (taken S.meaning (setting_of self.old) (number_of self.old) (replica_state self.old) message.now).state) }
+        requires { IsShaped S.Op.kind_of self.old.config message.now }
+        ensures acts { IfOk result (λ acts. AllFitting S.Op.kind_of self.old.config acts.items) }
+        ensures setting { self.new.config ≡ self.old.config }
+        ensures number { self.new.me ≡ self.old.me }
+        ensures did { IfOk result (λ acts. acts.items ≡ (taken S.meaning self.old.config self.old.me self.old.causal message.now).acts) }
+        ensures state { OnOk result (self.new.causal ≡ (taken S.meaning self.old.config self.old.me self.old.causal message.now).state) }
     {
         match message {
             Message::Update { call, time } => self.take_update(call, *time),
@@ -70,14 +77,14 @@ impl<S: Service> Replica<S> {
 
     // The first checks of an update.
     fn take_update(&mut self, call: &Call<S::Op>, time: u64) -> Result<Acts<S::Op>, NoMemory>
-        requires parts { length call.now.prev ≡ (setting_of self.old).replicas + 1 }
-        requires client { call.now.cid.client < (setting_of self.old).clients }
+        requires parts { length call.now.prev ≡ self.old.config.replicas + 1 }
+        requires client { call.now.cid.client < self.old.config.clients }
         requires update { IsUpdate (S.Op.kind_of call.now.op) }
-        ensures acts { IfOk result (λ acts. AllFitting S.Op.kind_of (setting_of self.old) acts.items) }
-        ensures setting { setting_of self.new ≡ setting_of self.old }
-        ensures number { number_of self.new ≡ number_of self.old }
-        ensures did { IfOk result (λ acts. acts.items ≡ (update_taken S.meaning (setting_of self.old).replicas (number_of self.old) (replica_state self.old) call.now (fresh_of (setting_of self.old).delta (replica_state self.old) call.now.cid time)).acts) }
-        ensures state { OnOk result (replica_state self.new ≡ (update_taken S.meaning (setting_of self.old).replicas (number_of self.old) (replica_state self.old) call.now (fresh_of (setting_of self.old).delta (replica_state self.old) call.now.cid time)).state) }
+        ensures acts { IfOk result (λ acts. AllFitting S.Op.kind_of self.old.config acts.items) }
+        ensures setting { self.new.config ≡ self.old.config }
+        ensures number { self.new.me ≡ self.old.me }
+        ensures did { IfOk result (λ acts. acts.items ≡ (update_taken S.meaning self.old.config.replicas self.old.me self.old.causal call.now (fresh_of self.old.config.delta self.old.causal call.now.cid time)).acts) }
+        ensures state { OnOk result (self.new.causal ≡ (update_taken S.meaning self.old.config.replicas self.old.me self.old.causal call.now (fresh_of self.old.config.delta self.old.causal call.now.cid time)).state) }
     {
         match self.causal.fresh(call.cid, time) {
             Fresh::Late { time, clock } => refused(self.allocator(), Refusal::Late { time, clock }),
@@ -93,14 +100,14 @@ impl<S: Service> Replica<S> {
 
     // An update that is new here.
     fn accept(&mut self, call: &Call<S::Op>) -> Result<Acts<S::Op>, NoMemory>
-        requires parts { length call.now.prev ≡ (setting_of self.old).replicas + 1 }
-        requires client { call.now.cid.client < (setting_of self.old).clients }
+        requires parts { length call.now.prev ≡ self.old.config.replicas + 1 }
+        requires client { call.now.cid.client < self.old.config.clients }
         requires update { IsUpdate (S.Op.kind_of call.now.op) }
-        ensures acts { IfOk result (λ acts. AllFitting S.Op.kind_of (setting_of self.old) acts.items) }
-        ensures setting { setting_of self.new ≡ setting_of self.old }
-        ensures number { number_of self.new ≡ number_of self.old }
-        ensures did { IfOk result (λ acts. acts.items ≡ (call_taken S.meaning (setting_of self.old).replicas (number_of self.old) (replica_state self.old) call.now (has_room (replica_state self.old)) (has_number (number_of self.old) (replica_state self.old))).acts) }
-        ensures state { OnOk result (replica_state self.new ≡ (call_taken S.meaning (setting_of self.old).replicas (number_of self.old) (replica_state self.old) call.now (has_room (replica_state self.old)) (has_number (number_of self.old) (replica_state self.old))).state) }
+        ensures acts { IfOk result (λ acts. AllFitting S.Op.kind_of self.old.config acts.items) }
+        ensures setting { self.new.config ≡ self.old.config }
+        ensures number { self.new.me ≡ self.old.me }
+        ensures did { IfOk result (λ acts. acts.items ≡ (call_taken S.meaning self.old.config.replicas self.old.me self.old.causal call.now (has_room self.old.causal) (has_number self.old.me self.old.causal)).acts) }
+        ensures state { OnOk result (self.new.causal ≡ (call_taken S.meaning self.old.config.replicas self.old.me self.old.causal call.now (has_room self.old.causal) (has_number self.old.me self.old.causal)).state) }
     {
         if !self.causal.log().has_room() {
             return refused(self.allocator(), Refusal::FullLog);
@@ -117,14 +124,14 @@ impl<S: Service> Replica<S> {
 
     // A query is answered, or held until all that its label names is applied.
     fn take_query(&mut self, call: &Call<S::Op>) -> Result<Acts<S::Op>, NoMemory>
-        requires parts { length call.now.prev ≡ (setting_of self.old).replicas + 1 }
-        requires client { call.now.cid.client < (setting_of self.old).clients }
+        requires parts { length call.now.prev ≡ self.old.config.replicas + 1 }
+        requires client { call.now.cid.client < self.old.config.clients }
         requires query { IsQuery (S.Op.kind_of call.now.op) }
-        ensures acts { IfOk result (λ acts. AllFitting S.Op.kind_of (setting_of self.old) acts.items) }
-        ensures setting { setting_of self.new ≡ setting_of self.old }
-        ensures number { number_of self.new ≡ number_of self.old }
-        ensures did { IfOk result (λ acts. acts.items ≡ (query_taken (replica_state self.old) call.now (answer_of S.meaning (replica_state self.old).value (replica_state self.old).val_ts call.now.prev call.now.op)).acts) }
-        ensures state { OnOk result (replica_state self.new ≡ (query_taken (replica_state self.old) call.now (answer_of S.meaning (replica_state self.old).value (replica_state self.old).val_ts call.now.prev call.now.op)).state) }
+        ensures acts { IfOk result (λ acts. AllFitting S.Op.kind_of self.old.config acts.items) }
+        ensures setting { self.new.config ≡ self.old.config }
+        ensures number { self.new.me ≡ self.old.me }
+        ensures did { IfOk result (λ acts. acts.items ≡ (query_taken self.old.causal call.now (answer_of S.meaning self.old.causal.value self.old.causal.val_ts call.now.prev call.now.op)).acts) }
+        ensures state { OnOk result (self.new.causal ≡ (query_taken self.old.causal call.now (answer_of S.meaning self.old.causal.value self.old.causal.val_ts call.now.prev call.now.op)).state) }
     {
         match self.causal.read(&call.prev, &call.op)? {
             Some(text) => {
@@ -136,11 +143,11 @@ impl<S: Service> Replica<S> {
     }
 
     fn hold(&mut self, call: &Call<S::Op>) -> Result<Acts<S::Op>, NoMemory>
-        ensures acts { IfOk result (λ acts. AllFitting S.Op.kind_of (setting_of self.old) acts.items) }
-        ensures setting { setting_of self.new ≡ setting_of self.old }
-        ensures number { number_of self.new ≡ number_of self.old }
-        ensures did { IfOk result (λ acts. acts.items ≡ (query_taken (replica_state self.old) call.now None).acts) }
-        ensures state { OnOk result (replica_state self.new ≡ (query_taken (replica_state self.old) call.now None).state) }
+        ensures acts { IfOk result (λ acts. AllFitting S.Op.kind_of self.old.config acts.items) }
+        ensures setting { self.new.config ≡ self.old.config }
+        ensures number { self.new.me ≡ self.old.me }
+        ensures did { IfOk result (λ acts. acts.items ≡ (query_taken self.old.causal call.now None).acts) }
+        ensures state { OnOk result (self.new.causal ≡ (query_taken self.old.causal call.now None).state) }
     {
         if self.causal.held().len() >= HELD_ROOM {
             return refused(self.allocator(), Refusal::FullHeld);
@@ -150,7 +157,9 @@ impl<S: Service> Replica<S> {
     }
 
     /// What is printed of its state.
-    pub fn state_line(&self) -> Result<Outcome, NoMemory> {
+    pub fn state_line(&self) -> Result<Outcome, NoMemory>
+        ensures { IfOk result (λ outcome. outcome ≡ Outcome.State (state_line_of self.now)) }
+    {
         let line = StateLine {
             replica: self.causal.me(),
             view: 0,
@@ -165,7 +174,9 @@ impl<S: Service> Replica<S> {
         Ok(Outcome::State { line })
     }
 
-    fn logged_updates(&self) -> Result<Rows<Spot>, NoMemory> {
+    fn logged_updates(&self) -> Result<Rows<Spot>, NoMemory>
+        ensures { IfOk result (λ spots. spots ≡ map (λ u. u.spot) self.now.causal.updates) }
+    {
         let mut spots = Rows::new(self.allocator());
         for update in self.causal.log().updates() {
             spots.push(update.spot)?;
@@ -173,7 +184,9 @@ impl<S: Service> Replica<S> {
         Ok(spots)
     }
 
-    fn logged_acks(&self) -> Result<Rows<Spot>, NoMemory> {
+    fn logged_acks(&self) -> Result<Rows<Spot>, NoMemory>
+        ensures { IfOk result (λ spots. spots ≡ map (λ a. a.spot) self.now.causal.acks) }
+    {
         let mut spots = Rows::new(self.allocator());
         for ack in self.causal.log().acks() {
             spots.push(ack.spot)?;
@@ -182,14 +195,18 @@ impl<S: Service> Replica<S> {
     }
 
     // The executed calls, ascending.
-    fn executed_calls(&self) -> Result<Rows<Cid>, NoMemory> {
+    fn executed_calls(&self) -> Result<Rows<Cid>, NoMemory>
+        ensures { IfOk result (λ cids. cids ≡ ascending (map (λ e. e.0) self.now.causal.calls)) }
+    {
         let mut cids = self.causal.calls().cids(self.allocator())?;
         cids.sort_unstable();
         Rows::from_slice(self.allocator(), cids.as_slice())
     }
 
     // The held queries, in the order of arrival.
-    fn held_calls(&self) -> Result<Rows<Cid>, NoMemory> {
+    fn held_calls(&self) -> Result<Rows<Cid>, NoMemory>
+        ensures { IfOk result (λ cids. cids ≡ map (λ c. c.cid) self.now.causal.held) }
+    {
         let mut cids = Rows::new(self.allocator());
         for call in self.causal.held() {
             cids.push(call.cid)?;

@@ -1,8 +1,9 @@
 //! All actors of a run, and every message that was sent.
-ghost use Rattle.std.specs.Prelude.{◌≡◌, length, vec_len, IfOk};
+ghost use Rattle.std.specs.Prelude.{◌≡◌, ◌∷◌, [], length, vec_len, IfOk};
 ghost use Rattle.lr_base.specs.Config.{IsValid};
 ghost use Rattle.lr_sim.specs.Posts.{AllFronts, AllPosted};
-ghost use Rattle.lr_sim.specs.Replicas.{setting_of};
+ghost use Rattle.lr_sim.specs.Replicas.{AllReplicas};
+ghost use Rattle.lr_sim.specs.Runs.{first_fronts, first_replicas, front_after, front_lines, sent_of_message};
 ghost use Rattle.lr_sim.specs.Shapes.{stamp_in};
 
 use crate::act::Act;
@@ -11,39 +12,44 @@ use crate::front::{CallFault, Front, Taken};
 use crate::posted::Posted;
 use crate::replica::Replica;
 use lr_base::lr_service::{Operation, Service};
-use lr_base::{Actor, Config, Event, Message, NoMemory, Outcome, Refusal, Rows, Sent};
+use lr_base::{Actor, Cid, Config, Event, Message, NoMemory, Outcome, Refusal, Rows, Sent};
 use std::alloc::Global;
 
-/// One replica, a front end for each client, and the messages, each of which may be delivered at any time.
+/// The replicas, a front end for each client, and the messages, each of which may be delivered at any time.
 #[derive(Drop)]
 pub struct World<S: Service> {
     config: Config,
-    replica: Replica<S>,
+    replicas: Vec<Replica<S>>,
     fronts: Vec<Front>,
     posted: Vec<Posted<S::Op>>,
     ghost valid: { IsValid config },
-    ghost setting: { setting_of replica ≡ config },
+    ghost each_replica: { vec_len replicas ≡ config.replicas },
+    ghost all_replicas: { AllReplicas config replicas.items },
     ghost each_client: { vec_len fronts ≡ config.clients },
     ghost all_fronts: { AllFronts config fronts.items },
     ghost all_posted: { AllPosted S.Op.kind_of config posted.items },
 }
 
 impl<S: Service> World<S> {
-    ghost use Rattle.std.specs.Prelude.{◌≡◌, ◌<◌, IfOk};
+    ghost use Rattle.std.specs.Prelude.{◌≡◌, ◌<◌, ◌∷◌, [], ◌++◌, slice_get, IfOk, OnOk};
+    ghost use Rattle.std.specs.Option.{ForSome};
     ghost use Rattle.lr_base.specs.Config.{IsValid};
     ghost use Rattle.lr_sim.specs.Shapes.{AllFitting, IsInRange, IsSendable, IsShaped};
-    ghost use Rattle.lr_sim.specs.Worlds.{posted_count, setup_of};
+    ghost use Rattle.lr_sim.specs.Runs.{act_lines, act_posts, acted, client_called, delivered, first_run, given, message_at, stepped};
+    ghost use Rattle.lr_sim.specs.FrontAnswers.{HasCalled};
+    ghost use Rattle.lr_sim.specs.Worlds.{posted_count, run_of, setup_of};
 
     /// The actors before any event.
     pub fn new(alloc: Global, config: Config) -> Result<Self, NoMemory>
         requires { IsValid config }
-        ensures { IfOk result (λ made. setup_of made ≡ config) }
+        ensures setup { IfOk result (λ made. setup_of made ≡ config) }
+        ensures run { IfOk result (λ made. run_of made ≡ first_run S.meaning config) }
     {
-        let replica = Replica::new(alloc, config, 0)?;
+        let replicas = make_replicas(alloc, config)?;
         let fronts = make_fronts(alloc, config)?;
         Ok(World {
             config,
-            replica,
+            replicas,
             fronts,
             posted: Vec::new(alloc),
         })
@@ -52,7 +58,9 @@ impl<S: Service> World<S> {
     /// Makes one event, and answers what is printed of it.
     pub fn step(&mut self, event: &Event<S::Op>) -> Result<Rows<Outcome>, NoMemory>
         requires { IsInRange (setup_of self.old) event.now }
-        ensures { setup_of self.new ≡ setup_of self.old }
+        ensures setup { setup_of self.new ≡ setup_of self.old }
+        ensures printed { IfOk result (λ lines. lines ≡ (stepped S.meaning (run_of self.old) event.now).outcomes) }
+        ensures run { OnOk result (run_of self.new ≡ (stepped S.meaning (run_of self.old) event.now).run) }
     {
         match event {
             Event::Call {
@@ -62,8 +70,8 @@ impl<S: Service> World<S> {
                 op,
             } => self.call(*client, *replica, *reading, op),
             Event::Deliver { message } => self.deliver(*message),
-            Event::Show { replica: _replica } => {
-                let line = self.replica.state_line()?;
+            Event::Show { replica } => {
+                let line = self.replicas[*replica as usize].state_line()?;
                 self.one_line(line)
             }
         }
@@ -73,7 +81,9 @@ impl<S: Service> World<S> {
         *self.posted.allocator()
     }
 
-    fn one_line(&self, line: Outcome) -> Result<Rows<Outcome>, NoMemory> {
+    fn one_line(&self, line: Outcome) -> Result<Rows<Outcome>, NoMemory>
+        ensures { IfOk result (λ lines. lines ≡ line ∷ []) }
+    {
         let mut lines = Rows::new(self.allocator());
         lines.push(line)?;
         Ok(lines)
@@ -89,7 +99,9 @@ impl<S: Service> World<S> {
     ) -> Result<Rows<Outcome>, NoMemory>
         requires client { client < (setup_of self.old).clients }
         requires replica { replica < (setup_of self.old).replicas }
-        ensures { setup_of self.new ≡ setup_of self.old }
+        ensures setup { setup_of self.new ≡ setup_of self.old }
+        ensures printed { IfOk result (λ lines. lines ≡ (client_called S.meaning (run_of self.old) client (Actor.Replica replica) reading op.now (slice_get (run_of self.old).fronts client)).outcomes) }
+        ensures run { OnOk result (run_of self.new ≡ (client_called S.meaning (run_of self.old) client (Actor.Replica replica) reading op.now (slice_get (run_of self.old).fronts client)).run) }
     {
         match self.call_front(client, reading, op) {
             Ok(message) => {
@@ -119,6 +131,7 @@ impl<S: Service> World<S> {
         requires { client < (setup_of self.old).clients }
         ensures shaped { IfOk result (IsShaped S.Op.kind_of (setup_of self.old)) }
         ensures setup { setup_of self.new ≡ setup_of self.old }
+        ensures answer { HasCalled (S.meaning.kind op.now) reading op.now (run_of self.old) client (run_of self.new) result }
     {
         let kind = S::kind(op);
         let front = &mut self.fronts[client as usize];
@@ -134,7 +147,9 @@ impl<S: Service> World<S> {
         lines: &mut Rows<Outcome>,
     ) -> Result<(), NoMemory>
         requires { IsSendable S.Op.kind_of (setup_of self.old) to message }
-        ensures { setup_of self.new ≡ setup_of self.old }
+        ensures setup { setup_of self.new ≡ setup_of self.old }
+        ensures line { OnOk result (lines.new ≡ lines.old ++ act_lines (posted_count self.old) from (Act.Send to message ∷ [])) }
+        ensures run { OnOk result (run_of self.new ≡ record (run_of self.old) { posted = (run_of self.old).posted ++ act_posts from (Act.Send to message ∷ []) }) }
     {
         let number = self.posted.len() as u64 + 1;
         let what = sent_of(&message)?;
@@ -149,7 +164,9 @@ impl<S: Service> World<S> {
 
     // A message is given to its receiver.
     fn deliver(&mut self, number: u64) -> Result<Rows<Outcome>, NoMemory>
-        ensures { setup_of self.new ≡ setup_of self.old }
+        ensures setup { setup_of self.new ≡ setup_of self.old }
+        ensures printed { IfOk result (λ lines. lines ≡ (delivered S.meaning (run_of self.old) number (message_at (run_of self.old).posted number)).outcomes) }
+        ensures run { OnOk result (run_of self.new ≡ (delivered S.meaning (run_of self.old) number (message_at (run_of self.old).posted number)).run) }
     {
         let sent = self.posted.len() as u64;
         if number == 0 {
@@ -161,10 +178,7 @@ impl<S: Service> World<S> {
         let at = (number - 1) as usize;
         match self.posted[at].to {
             Actor::Client(client) => self.reply(client, at),
-            Actor::Replica(me) => {
-                let acts = self.replica.take(&self.posted[at].message)?;
-                self.perform(me, acts)
-            }
+            Actor::Replica(me) => self.take(me, at),
         }
     }
 
@@ -172,21 +186,36 @@ impl<S: Service> World<S> {
     fn reply(&mut self, client: u32, at: usize) -> Result<Rows<Outcome>, NoMemory>
         requires client { client < (setup_of self.old).clients }
         requires at { at < posted_count self.old }
-        ensures { setup_of self.new ≡ setup_of self.old }
+        ensures setup { setup_of self.new ≡ setup_of self.old }
+        ensures printed { IfOk result (λ lines. ForSome (slice_get (run_of self.old).posted at) (λ posted. lines ≡ (given S.meaning (run_of self.old) (Actor.Client client) posted.message).outcomes)) }
+        ensures run { OnOk result (ForSome (slice_get (run_of self.old).posted at) (λ posted. run_of self.new ≡ (given S.meaning (run_of self.old) (Actor.Client client) posted.message).run)) }
     {
+        let alloc = self.allocator();
         let posted = &self.posted[at];
         let front = &mut self.fronts[client as usize];
-        match give(front, &posted.message) {
-            Some(Taken::Got(cid)) => self.one_line(Outcome::Got { cid }),
-            Some(Taken::Stale(cid)) => self.one_line(Outcome::Stale { cid }),
-            None => Ok(Rows::new(self.allocator())),
-        }
+        give(alloc, front, &posted.message)
+    }
+
+    // A message is given to its replica.
+    fn take(&mut self, me: u8, at: usize) -> Result<Rows<Outcome>, NoMemory>
+        requires me { me < (setup_of self.old).replicas }
+        requires at { at < posted_count self.old }
+        ensures setup { setup_of self.new ≡ setup_of self.old }
+        ensures printed { IfOk result (λ lines. ForSome (slice_get (run_of self.old).posted at) (λ posted. lines ≡ (given S.meaning (run_of self.old) (Actor.Replica me) posted.message).outcomes)) }
+        ensures run { OnOk result (ForSome (slice_get (run_of self.old).posted at) (λ posted. run_of self.new ≡ (given S.meaning (run_of self.old) (Actor.Replica me) posted.message).run)) }
+    {
+        let posted = &self.posted[at];
+        let replica = &mut self.replicas[me as usize];
+        let acts = replica.take(&posted.message)?;
+        self.perform(me, acts)
     }
 
     // What a step of a replica does is printed and sent.
     fn perform(&mut self, me: u8, mut acts: Acts<S::Op>) -> Result<Rows<Outcome>, NoMemory>
         requires { AllFitting S.Op.kind_of (setup_of self.old) acts.items }
-        ensures { setup_of self.new ≡ setup_of self.old }
+        ensures setup { setup_of self.new ≡ setup_of self.old }
+        ensures printed { IfOk result (λ lines. lines ≡ (acted (run_of self.old) (Actor.Replica me) acts.items).outcomes) }
+        ensures run { OnOk result (run_of self.new ≡ (acted (run_of self.old) (Actor.Replica me) acts.items).run) }
     {
         let mut lines = Rows::new(self.allocator());
         while let Some(act) = acts.pop_front() {
@@ -201,30 +230,50 @@ impl<S: Service> World<S> {
     }
 }
 
-// A front end takes a message, if it is a reply.
-fn give<O: Operation>(front: &mut Front, message: &Message<O>) -> Option<Taken>
+// A front end takes a message, and answers what is printed of it: nothing, if it is no reply.
+fn give<O: Operation>(
+    alloc: Global,
+    front: &mut Front,
+    message: &Message<O>,
+) -> Result<Rows<Outcome>, NoMemory>
     requires { length (stamp_in message.now) ≡ length front.old.label }
     ensures parts { length front.new.label ≡ length front.old.label }
     ensures client { front.new.client ≡ front.old.client }
+    ensures front { front.new ≡ front_after message.now front.old }
+    ensures lines { IfOk result (λ lines. lines ≡ front_lines message.now front.old) }
 {
     match message {
         Message::Done {
             cid,
             spot: _spot,
             stamp,
-        } => Some(front.take_reply(*cid, stamp)),
+        } => reply_line(alloc, front.take_reply(*cid, stamp)),
         Message::Answer {
             cid,
             text: _text,
             stamp,
-        } => Some(front.take_reply(*cid, stamp)),
-        // A call has no rule at a front end.
-        _ => None,
+        } => reply_line(alloc, front.take_reply(*cid, stamp)),
+        _ => Ok(Rows::new(alloc)),
     }
 }
 
+// What is printed of a reply.
+fn reply_line(alloc: Global, taken: Taken) -> Result<Rows<Outcome>, NoMemory>
+    ensures got { (cid : Cid) → taken ≡ Taken.Got cid → IfOk result (λ lines. lines ≡ Outcome.Got cid ∷ []) }
+    ensures stale { (cid : Cid) → taken ≡ Taken.Stale cid → IfOk result (λ lines. lines ≡ Outcome.Stale cid ∷ []) }
+{
+    let mut lines = Rows::new(alloc);
+    lines.push(match taken {
+        Taken::Got(cid) => Outcome::Got { cid },
+        Taken::Stale(cid) => Outcome::Stale { cid },
+    })?;
+    Ok(lines)
+}
+
 // What is printed of a message.
-fn sent_of<O>(message: &Message<O>) -> Result<Sent, NoMemory> {
+fn sent_of<O>(message: &Message<O>) -> Result<Sent, NoMemory>
+    ensures { IfOk result (λ sent. sent ≡ sent_of_message message.now) }
+{
     Ok(match message {
         Message::Update { call, time } => Sent::Update {
             cid: call.cid,
@@ -255,10 +304,25 @@ fn make_fronts(alloc: Global, config: Config) -> Result<Vec<Front>, NoMemory>
     requires { IsValid config }
     ensures each { IfOk result (λ fronts. vec_len fronts ≡ config.clients) }
     ensures all { IfOk result (λ fronts. AllFronts config fronts.items) }
+    ensures first { IfOk result (λ fronts. fronts.items ≡ first_fronts config config.clients) }
 {
     let mut fronts = Vec::new(alloc);
     for client in 0..config.clients {
         fronts.push(Front::new(client, config.replicas + 1))?;
     }
     Ok(fronts)
+}
+
+// Each replica, at its place.
+fn make_replicas<S: Service>(alloc: Global, config: Config) -> Result<Vec<Replica<S>>, NoMemory>
+    requires { IsValid config }
+    ensures each { IfOk result (λ replicas. vec_len replicas ≡ config.replicas) }
+    ensures all { IfOk result (λ replicas. AllReplicas config replicas.items) }
+    ensures first { IfOk result (λ replicas. replicas.items ≡ first_replicas S.meaning config config.replicas) }
+{
+    let mut replicas = Vec::new(alloc);
+    for me in 0..config.replicas {
+        replicas.push(Replica::new(alloc, config, me)?)?;
+    }
+    Ok(replicas)
 }

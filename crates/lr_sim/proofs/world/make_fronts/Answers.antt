@@ -1,7 +1,8 @@
-use Rattle.std.proofs.Common.{◌∙◌, length, ap, arith, sym}
+use Rattle.std.proofs.Common.{◌∙◌, ◌++◌, ◌∷◌, [], length, ap, arith, sym}
 use Rattle.std.proofs.lemmas.Grind.{common_steps}
 use Rattle.std.proofs.lemmas.List.{length-replicate}
 use Rattle.lr_sim.proofs.Everywhere.{each-pushed}
+use Rattle.lr_sim.proofs.RunLemmas.{first_fronts-more}
 use Rattle.lr_sim.specs.Fronts.{FrontState}
 use Rattle.lr_sim.specs.Posts.{IsFront}
 use Rattle.lr_sim.proofs.world.make_fronts.Goals as goal
@@ -14,4 +15,5 @@ loop-client-preserved c = record {
         parts = ap (λ (front : FrontState). length front.label) c.new.ensures ∙ length-replicate _ 0;
         number = ap (λ (front : FrontState). front.client) c.new.ensures ∙ sym c.loop-client.invariant.each ∙ c.loop-client.fronts.ok.0;
       });
+  first = c.in_ok-push.ensures.items ∙ (λ k. c.loop-client.invariant.first k ++ c.new.ensures k ∷ []) ∙ first_fronts-more c.args.config c.loop-client.client;
 }

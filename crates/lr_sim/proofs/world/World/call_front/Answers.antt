@@ -1,6 +1,10 @@
-use Rattle.std.proofs.Common.{◌<◌, ◌∙◌, length, ap, sym}
+use Rattle.std.proofs.Common.{◌<◌, ◌∙◌, length, ap, refl, subst, sym}
+use Rattle.std.proofs.lemmas.Option.{slice_get_read}
+use Rattle.lr_sim.proofs.RunLemmas.{has_answered}
 use Rattle.lr_sim.proofs.Everywhere.{each-read, each-set}
 use Rattle.lr_sim.proofs.Calling.{message_of-shaped}
+use Rattle.lr_base.specs.declared.lr_service.Kind.{Kind}
+use Rattle.lr_sim.specs.FrontAnswers.{HasAnswered}
 use Rattle.lr_sim.specs.Posts.{IsFront}
 use Rattle.lr_sim.proofs.world.World.call_front.Goals as goal
 
@@ -22,3 +26,17 @@ returns-clause-shaped g c =
     let known : c.index_mut-front.result.now.client < it.config.clients = rw old.number c.requires in
     message_of-shaped g.S.Op.Operation.kind_of it.config c.index_mut-front.result.now c.args.reading c.args.op.now _ (sym c.kind-kind.ensures.same)
     old.parts known _ _ c.call.result c.call.ensures.ok
+
+pub returns-clause-answer : goal.returns-clause-answer
+returns-clause-answer g c =
+    let it = c.args.self.now in
+    let within : c.args.client < it.fronts.len = rw it.each_client c.requires in
+    record {
+      front = c.index_mut-front.result.now;
+      next = c.call.new.self;
+      there = slice_get_read it.fronts.items it.fronts.len c.args.client c.index_mut-front.result.now it.fronts.ok.0 within c.index_mut-front.ensures.value;
+      changed = refl;
+      answered =
+          subst (λ (kind : Kind). HasAnswered kind c.args.reading c.args.op.now c.index_mut-front.result.now c.call.new.self c.call.result) c.kind-kind.ensures.meaning
+          (has_answered c.kind-kind.result c.args.reading c.args.op.now c.index_mut-front.result.now c.call.new.self c.call.result c.call.ensures.ok c.call.ensures.unfinished c.call.ensures.worn c.call.ensures.unfinished_clock c.call.ensures.worn_clock);
+    }

@@ -1,7 +1,7 @@
 use Rattle.std.proofs.Common.{◌≡◌, ◌<◌, ◌-◌, ℕ, true, nat_lt, ltb-true, arith, subst}
 use Rattle.lr_base.specs.declared.names.Actor.{Actor}
 use Rattle.lr_sim.proofs.Everywhere.{each-read}
-use Rattle.lr_sim.specs.Shapes.{IsSendable, IsShaped, is_actor}
+use Rattle.lr_sim.specs.Shapes.{IsSendable, is_actor}
 use Rattle.lr_sim.proofs.world.World.deliver.Goals as goal
 
 pub reply-requires-clause-client : goal.reply-requires-clause-client
@@ -15,13 +15,13 @@ reply-requires-clause-client g c =
     let known : nat_lt c.in-Client.client it.config.clients ≡ true = subst (λ (to : Actor). is_actor it.config to ≡ true) c.in-Client.is posted.to_known in
     ltb-true _ _ known
 
-pub take-requires : goal.take-requires
-take-requires g c =
+pub take-requires-clause-me : goal.take-requires-clause-me
+take-requires-clause-me g c =
     let it = c.args.self.now in
     let some = c.if-number-eq0.false in
     let most = c.if-number-sent.false in
     let sent : c.len-sent.result ≡ it.posted.len = c.len-sent.ensures in
     let within : c.args.number - 1 < it.posted.len = omega arith in
-    let posted = each-read it.posted.items (c.args.number - 1) c.index-in-Replica.result.now (λ (k : ℕ) p. IsSendable g.S.Op.Operation.kind_of it.config p.to p.message) it.all_posted it.posted.len it.posted.ok.0 within c.index-in-Replica.ensures in
-    let shaped : IsShaped g.S.Op.Operation.kind_of it.config c.index-in-Replica.result.now.message = posted.shaped in
-    rw it.setting shaped
+    let posted = each-read it.posted.items (c.args.number - 1) c.index.result.now (λ (k : ℕ) p. IsSendable g.S.Op.Operation.kind_of it.config p.to p.message) it.all_posted it.posted.len it.posted.ok.0 within c.index.ensures in
+    let known : nat_lt c.in-Replica.me it.config.replicas ≡ true = subst (λ (to : Actor). is_actor it.config to ≡ true) c.in-Replica.is posted.to_known in
+    ltb-true _ _ known
