@@ -58,7 +58,7 @@ impl CallTable {
         Ok(())
     }
 
-    /// Takes out the call that was entered last.
+    /// Takes out the call that was entered last. A table with no call stays as it is.
     pub fn leave(&mut self)
         ensures { self.new ≡ take (length self.old - 1) self.old }
     {
