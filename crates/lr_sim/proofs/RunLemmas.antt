@@ -1,12 +1,12 @@
 -- What the parts of an event come to in a run.
-use Rattle.std.proofs.Common.{◌≡◌, ◌≢◌, ◌↔◌, ◌^◌, ◌+◌, ℕ, suc, [], ◌∷◌, ◌++◌, length, arith, refl, sym, ap, ◌∙◌, List, Option, None, Some, Result, Ok, Err, set, IfOk, OnOk, IsErrOf}
+use Rattle.std.proofs.Common.{◌≡◌, ◌↔◌, ◌^◌, ◌+◌, ℕ, suc, [], ◌∷◌, ◌++◌, length, arith, refl, sym, ap, ◌∙◌, List, None, Some, Result, Ok, Err, set, IfOk, OnOk, IsErrOf}
 use Rattle.std.specs.List.{slice_get}
 use Rattle.lr_base.specs.Meaning.{Meaning}
 use Rattle.lr_base.specs.declared.lr_service.Kind.{Kind}
 use Rattle.lr_base.specs.declared.events.Event.{Event}
 use Rattle.lr_base.specs.declared.events.Step.{Step}
 use Rattle.lr_base.specs.declared.messages.Message.{Message}
-use Rattle.lr_base.specs.declared.names.Actor.TheVariants.{Replica, Client}
+use Rattle.lr_base.specs.declared.names.Actor.TheVariants.{Replica}
 use Rattle.lr_base.specs.declared.names.Cid.{Cid}
 use Rattle.lr_base.specs.declared.names.Config.{Config}
 use Rattle.lr_sim.specs.FrontAnswers.{HasAnswered}

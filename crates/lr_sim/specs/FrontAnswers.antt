@@ -1,5 +1,5 @@
 -- What a front end answers in a run.
-use Rattle.std.specs.Prelude.{◌≡◌, ◌^◌, ◌≢◌, ℕ, List, Option, None, Some, Result, Ok, Err}
+use Rattle.std.specs.Prelude.{◌≡◌, ◌^◌, ◌≢◌, ℕ, None, Some, Result, Ok, Err}
 use Rattle.std.specs.List.{slice_get}
 use Rattle.lr_base.specs.declared.lr_service.Kind.{Kind}
 use Rattle.lr_base.specs.declared.messages.Message.{Message}

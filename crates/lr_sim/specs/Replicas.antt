@@ -1,5 +1,5 @@
 -- What contracts see of a replica in the simulator.
-use Rattle.std.specs.Prelude.{◌≡◌, ℕ, ◌+◌, map, List, [], Option}
+use Rattle.std.specs.Prelude.{◌≡◌, ℕ, ◌+◌, map, List, []}
 use Rattle.std.specs.List.{slice_get}
 use Rattle.std.specs.Option.{ForSome}
 use Rattle.lr_base.specs.Meaning.{Meaning}

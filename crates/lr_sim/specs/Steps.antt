@@ -3,7 +3,6 @@ use Rattle.std.specs.Prelude.{ℕ, ◌+◌, ◌^◌, Bool, true, false, nat_lt, 
 use Rattle.lr_base.specs.Meaning.{Meaning}
 use Rattle.lr_base.specs.Rules.{CausalState, accepted, answer_of, applied, fresh_of, held_more, pruned, stamp_of, update_of_call}
 use Rattle.lr_base.specs.Stamps.{part}
-use Rattle.lr_base.specs.declared.events.Outcome.{Outcome}
 use Rattle.lr_base.specs.declared.events.Outcome.TheVariants.{Accept, Hold, Refuse}
 use Rattle.lr_base.specs.declared.events.Refusal.{Refusal}
 use Rattle.lr_base.specs.declared.events.Refusal.TheVariants.{Late as IsLate, Again as WasTaken, Settled as IsSettled, FullLog, FullHeld, Worn}

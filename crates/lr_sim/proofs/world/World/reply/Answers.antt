@@ -1,4 +1,4 @@
-use Rattle.std.proofs.Common.{◌≡◌, ◌<◌, ◌∙◌, ℕ, ap, length, refl, sym}
+use Rattle.std.proofs.Common.{◌<◌, ◌∙◌, ℕ, ap, length, refl, sym}
 use Rattle.std.proofs.lemmas.Option.{slice_get_read}
 use Rattle.lr_sim.proofs.Everywhere.{each-read, each-set}
 use Rattle.lr_sim.proofs.RunLemmas.{always-ok, front_given-at, map-ok}
