@@ -34,11 +34,12 @@ pub record Stepped (Value Op : Type 0) : Type 0 where
   pub run : RunState Value Op
   pub outcomes : List Outcome
 
--- the first so many replicas, and front ends, before any event
+-- the first so many replicas before any event
 abbrev pub first_replicas : {Value Op : Type 0} → Meaning Value Op → Config → ℕ → List (ReplicaState Value Op)
 first_replicas m config zero = []
 first_replicas m config (suc k) = first_replicas m config k ++ first_replica m config k ∷ []
 
+-- the first so many front ends before any event
 abbrev pub first_fronts : Config → ℕ → List FrontState
 first_fronts config zero = []
 first_fronts config (suc k) = first_fronts config k ++ new_front k (config.replicas + 1) ∷ []
