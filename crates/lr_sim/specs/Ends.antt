@@ -25,14 +25,14 @@ pub record HasRead (before now : Option (List ℕ)) (bytes : List ℕ) : Type 0 
   pub most : length bytes ≤ 8388609
   pub whole : length bytes < 8388609 → IsAtEnd now
 
--- the bytes are a script, and the printed form of a history of just its events was written
+-- the bytes are a script, and the printed form of the history that its events make was written
 pub record HasRun {Value Op : Type 0} (m : Meaning Value Op) (bytes : List ℕ) (before now : Option (List ℕ)) : Type 0 where
   pub header : Header
   pub events : List (Event Op)
   pub script : IsScript m header events bytes
   pub printed_all : HasPrinted m header events before now []
 
--- the bytes are a script, and the front of the printed form of a history of some first events was written
+-- the bytes are a script, and the front of the printed form of the history that some first of its events make was written
 pub record HasRunPart {Value Op : Type 0} (m : Meaning Value Op) (bytes : List ℕ) (before now : Option (List ℕ)) : Type 0 where
   pub header : Header
   pub events : List (Event Op)
