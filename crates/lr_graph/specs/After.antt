@@ -1,0 +1,126 @@
+-- How the facts of a history change: by each event, and by each line that is printed of it.
+use Rattle.std.specs.Prelude.{ℕ, suc, Bool, true, false, ◌^◌, ◌==◌, ◌++◌, ◌∷◌, [], max, not, filter, find, List, Option, Some, None}
+use Rattle.lr_base.specs.declared.events.Event.{Event}
+use Rattle.lr_base.specs.declared.events.Event.TheVariants.{Call, Deliver, Show}
+use Rattle.lr_base.specs.declared.events.Outcome.{Outcome}
+use Rattle.lr_base.specs.declared.events.Outcome.TheVariants.{Send, Accept, Hold, Got, Stale, NoMessage, Refuse, State}
+use Rattle.lr_base.specs.declared.events.Sent.{Sent}
+use Rattle.lr_base.specs.declared.events.Sent.TheVariants.{Update, Query, Done, Answer}
+use Rattle.lr_base.specs.declared.events.Step.{Step}
+use Rattle.lr_base.specs.declared.names.Actor.{Actor}
+use Rattle.lr_base.specs.declared.names.Actor.TheVariants.{Client, Replica}
+use Rattle.lr_base.specs.declared.names.Spot.{Spot}
+use Rattle.lr_graph.specs.Graph.{Carried, Facts, FrontFacts, LabelledCall, SentMessage, UpdateCopy, QueryCopy, DoneReply, AnswerReply, Blank, below_of, is_within, keep_new, ready}
+use Rattle.lr_graph.specs.Sets.{SpotSet, nothing, only, put_at, ◌∪◌}
+
+-- the next call of a front end, with the label that it has
+abbrev pub next_call : {Op : Type 0} → ℕ → FrontFacts Op → Op → LabelledCall Op
+next_call client front op = record { cid = record { client = client; seq = suc front.calls }; op = op; label = front.label }
+
+-- a call's reading counts in any case, and the call opens where none is open and a number is left
+abbrev pub front_called : {Op : Type 0} → ℕ → ℕ → Op → FrontFacts Op → Option (LabelledCall Op) → Bool → FrontFacts Op
+front_called client reading op front (Some call) worn = record front { clock = max front.clock reading }
+front_called client reading op front None true = record front { clock = max front.clock reading }
+front_called client reading op front None false = record front { clock = max front.clock reading; calls = suc front.calls; open_call = Some (next_call client front op) }
+
+-- the facts after an event, before its lines are read: a call is made
+abbrev pub event_read : {Op : Type 0} → Facts Op → Event Op → Facts Op
+event_read w (Call client replica reading op) =
+    let front = w.front client in
+    record w { front = put_at client (front_called client reading op front front.open_call (front.calls == 2 ^ 62)) w.front }
+event_read w (Deliver message) = w
+event_read w (Show replica) = w
+
+-- the message that an event delivers
+abbrev pub delivered : {Op : Type 0} → Facts Op → Event Op → Option (SentMessage Op)
+delivered w (Call client replica reading op) = None
+delivered w (Deliver message) = find (λ x. x.number == message) w.messages
+delivered w (Show replica) = None
+
+-- the causes of a causal update: what its label names
+abbrev pub causes_of : {Op : Type 0} → LabelledCall Op → SpotSet
+causes_of call = call.label
+
+-- what is sent of an open call
+abbrev pub copy_of : {Op : Type 0} → Option (LabelledCall Op) → (LabelledCall Op → Carried Op) → Carried Op
+copy_of None copy = Blank
+copy_of (Some call) copy = copy call
+
+-- what is ready at an actor: nothing at a front end
+abbrev pub ready_at : {Op : Type 0} → Facts Op → Actor → SpotSet
+ready_at w (Replica i) = ready w.accepted (w.received i)
+ready_at w (Client client) = nothing
+
+-- what a message carries that is sent now: the open call of its client, or what its reply stands for
+abbrev pub carried : {Op : Type 0} → Facts Op → Actor → Sent → Carried Op
+carried w from (Update cid time) = copy_of (w.front cid.client).open_call (λ call. UpdateCopy call time)
+carried w from (Query cid) = copy_of (w.front cid.client).open_call QueryCopy
+carried w from (Done cid spot) = DoneReply cid (below_of w.accepted spot)
+carried w from (Answer cid text) = AnswerReply cid (ready_at w from)
+
+-- a replica accepts a call: it receives the new acceptance
+abbrev pub accepts : {Op : Type 0} → Facts Op → ℕ → Spot → LabelledCall Op → Facts Op
+accepts w i spot call = record w {
+  accepted = record { spot = spot; cid = call.cid; op = call.op; below = causes_of call ∪ only spot } ∷ w.accepted;
+  received = put_at i (w.received i ∪ only spot) w.received;
+}
+
+-- a front end takes the reply to its open call: its label names what the reply stands for
+abbrev pub takes_reply : {Op : Type 0} → Facts Op → ℕ → SpotSet → Facts Op
+takes_reply w client names =
+    let front = w.front client in
+    record w { front = put_at client (record front { label = front.label ∪ names; open_call = None }) w.front }
+
+-- the facts after a line about a message that came to an actor
+abbrev pub accept_read : {Op : Type 0} → Facts Op → Spot → Actor → Carried Op → Facts Op
+accept_read w spot (Replica i) (UpdateCopy call time) = accepts w i spot call
+accept_read w spot _ _ = w
+
+abbrev pub hold_read : {Op : Type 0} → Facts Op → Actor → Carried Op → Facts Op
+hold_read w (Replica i) (QueryCopy call) = record w { held = put_at i (w.held i ++ call ∷ []) w.held }
+hold_read w _ _ = w
+
+abbrev pub got_read : {Op : Type 0} → Facts Op → Actor → Carried Op → Facts Op
+got_read w (Client client) (DoneReply cid names) = takes_reply w client names
+got_read w (Client client) (AnswerReply cid names) = takes_reply w client names
+got_read w _ _ = w
+
+-- the facts where a message came, if one did
+abbrev pub with_message : {Op : Type 0} → Facts Op → Option (SentMessage Op) → (Actor → Carried Op → Facts Op) → Facts Op
+with_message w None change = w
+with_message w (Some x) change = change x.to x.what
+
+-- the facts after a line: all but these four change nothing
+abbrev pub line_read : {Op : Type 0} → Option (SentMessage Op) → Facts Op → Outcome → Facts Op
+line_read x w (Send number from to what) = record w { messages = record { number = number; from = from; to = to; what = carried w from what } ∷ w.messages }
+line_read x w (Accept spot cid) = with_message w x (accept_read w spot)
+line_read x w (Hold cid) = with_message w x (hold_read w)
+line_read x w (Got cid) = with_message w x (got_read w)
+line_read x w (Stale cid) = w
+line_read x w (NoMessage message) = w
+line_read x w (Refuse why) = w
+line_read x w (State line) = w
+
+-- the facts after several lines
+abbrev pub lines_read : {Op : Type 0} → Option (SentMessage Op) → Facts Op → List Outcome → Facts Op
+lines_read x w [] = w
+lines_read x w (line ∷ lines) = lines_read x (line_read x w line) lines
+
+-- at the end of a replica's step its answered queries are held no more, and it keeps a spot of each call that got ready
+abbrev pub replica_ended : {Op : Type 0} → Facts Op → Actor → Facts Op
+replica_ended w (Client client) = w
+replica_ended w (Replica i) = record w {
+  held = put_at i (filter (λ call. not (is_within w.accepted call.label (w.received i))) (w.held i)) w.held;
+  kept = put_at i (keep_new w.accepted (ready w.accepted (w.received i)) w.accepted (w.kept i)) w.kept;
+}
+
+-- the facts at the end of a step in which a message came, if one did
+abbrev pub step_ended : {Op : Type 0} → Option (SentMessage Op) → Facts Op → Facts Op
+step_ended None w = w
+step_ended (Some x) w = replica_ended w x.to
+
+-- the facts after a step
+abbrev pub after : {Op : Type 0} → Facts Op → Step Op → Facts Op
+after w step =
+    let x = delivered w step.event in
+    step_ended x (lines_read x (event_read w step.event) step.outcomes)

@@ -1,0 +1,137 @@
+-- The graph of updates: the facts that a history gives, and what follows from them.
+use Rattle.std.specs.Prelude.{ℕ, zero, suc, Bool, ◌&&◌, ◌||◌, not, ◌==◌, is_some, if◌then◌else◌, List, [], ◌∷◌, ◌++◌, Option, Some, None}
+use Rattle.std.specs.List.{list_any, list_all}
+use Rattle.lr_base.specs.Meaning.{Meaning}
+use Rattle.lr_base.specs.Rules.{same_cid}
+use Rattle.lr_base.specs.declared.names.Actor.{Actor}
+use Rattle.lr_base.specs.declared.names.Cid.{Cid}
+use Rattle.lr_base.specs.declared.names.Spot.{Spot}
+use Rattle.lr_graph.specs.Sets.{SpotSet, same_spot, nothing, how_many, lesser, put_call, put_spot}
+
+-- an update that was accepted at a spot, with its causes and itself, which never change
+pub record Acceptance (Op : Type 0) : Type 0 where
+  pub spot : Spot
+  pub cid : Cid
+  pub op : Op
+  pub below : SpotSet
+
+-- a call, with the updates that its front end's label named when it was made
+pub record LabelledCall (Op : Type 0) : Type 0 where
+  pub cid : Cid
+  pub op : Op
+  pub label : SpotSet
+
+-- what a message carries
+pub data Carried (Op : Type 0) : Type 0 where
+  UpdateCopy : (call : LabelledCall Op) (time : ℕ) → Carried Op
+  QueryCopy : (call : LabelledCall Op) → Carried Op
+  DoneReply : (cid : Cid) (names : SpotSet) → Carried Op
+  AnswerReply : (cid : Cid) (names : SpotSet) → Carried Op
+  Blank : Carried Op
+
+-- a message that was sent
+pub record SentMessage (Op : Type 0) : Type 0 where
+  pub number : ℕ
+  pub from : Actor
+  pub to : Actor
+  pub what : Carried Op
+
+-- a front end: what its label names, how many calls it made, its clock and its open call
+pub record FrontFacts (Op : Type 0) : Type 0 where
+  pub label : SpotSet
+  pub calls : ℕ
+  pub clock : ℕ
+  pub open_call : Option (LabelledCall Op)
+
+-- an executed call, and the spot that is kept of it
+pub record Kept : Type 0 where
+  pub cid : Cid
+  pub spot : Spot
+
+-- the facts of a history: acceptances and messages have the newest first, the rest is by replica or by client
+pub record Facts (Op : Type 0) : Type 0 where
+  pub accepted : List (Acceptance Op)
+  pub messages : List (SentMessage Op)
+  pub received : ℕ → SpotSet
+  pub kept : ℕ → List Kept
+  pub held : ℕ → List (LabelledCall Op)
+  pub front : ℕ → FrontFacts Op
+
+-- the facts before any event
+abbrev pub first_facts : {Op : Type 0} → Facts Op
+first_facts = record {
+  accepted = [];
+  messages = [];
+  received = λ i. nothing;
+  kept = λ i. [];
+  held = λ i. [];
+  front = λ f. record { label = nothing; calls = 0; clock = 0; open_call = None };
+}
+
+-- whether each acceptance of one set is in the other
+abbrev pub is_within : {Op : Type 0} → List (Acceptance Op) → SpotSet → SpotSet → Bool
+is_within accepted x y = list_all (λ a. not (x a.spot) || y a.spot) accepted
+
+-- the acceptances that are received with all their causes
+abbrev pub ready : {Op : Type 0} → List (Acceptance Op) → SpotSet → SpotSet
+ready accepted received spot = list_any (λ a. same_spot spot a.spot && (received a.spot && is_within accepted a.below received)) accepted
+
+-- the causes of the acceptance at this spot, and itself
+abbrev pub below_of : {Op : Type 0} → List (Acceptance Op) → Spot → SpotSet
+below_of [] spot = nothing
+below_of (a ∷ older) spot = if same_spot spot a.spot then a.below else below_of older spot
+
+-- whether an acceptance of this call is in the set
+abbrev pub has_call : {Op : Type 0} → List (Acceptance Op) → SpotSet → Cid → Bool
+has_call accepted set cid = list_any (λ a. set a.spot && same_cid cid a.cid) accepted
+
+-- the value after the acceptances of a set: each is applied in the order of making, but for those of a call that was applied before
+abbrev pub value : {Value Op : Type 0} → Meaning Value Op → List (Acceptance Op) → SpotSet → Value
+value m [] set = m.start
+value m (a ∷ older) set =
+    if set a.spot && not (has_call older set a.cid) then m.apply (value m older set) a.op else value m older set
+
+-- how many acceptances there are at a place
+abbrev pub made : {Op : Type 0} → List (Acceptance Op) → ℕ → ℕ
+made accepted place = how_many (λ a. a.spot.place == place) accepted
+
+-- how many acceptances of a set there are
+abbrev pub size_of : {Op : Type 0} → List (Acceptance Op) → SpotSet → ℕ
+size_of accepted set = how_many (λ a. set a.spot) accepted
+
+-- how many acceptances of a set there are at each of the first places
+abbrev pub counts : {Op : Type 0} → List (Acceptance Op) → SpotSet → ℕ → List ℕ
+counts accepted set zero = []
+counts accepted set (suc place) = counts accepted set place ++ how_many (λ a. (a.spot.place == place) && set a.spot) accepted ∷ []
+
+-- the spots of a set, ascending
+abbrev pub spots_of : {Op : Type 0} → List (Acceptance Op) → SpotSet → List Spot
+spots_of [] set = []
+spots_of (a ∷ older) set = if set a.spot then put_spot a.spot (spots_of older set) else spots_of older set
+
+-- the calls of a set, ascending, each once
+abbrev pub calls_of : {Op : Type 0} → List (Acceptance Op) → SpotSet → List Cid
+calls_of [] set = []
+calls_of (a ∷ older) set = if set a.spot then put_call a.cid (calls_of older set) else calls_of older set
+
+-- the least spot that a set has of a call
+abbrev pub least_spot : {Op : Type 0} → List (Acceptance Op) → SpotSet → Cid → Option Spot
+least_spot [] set cid = None
+least_spot (a ∷ older) set cid = if set a.spot && same_cid cid a.cid then lesser a.spot (least_spot older set cid) else least_spot older set cid
+
+-- the spot that is kept of a call
+abbrev pub kept_spot : List Kept → Cid → Option Spot
+kept_spot [] cid = None
+kept_spot (k ∷ kept) cid = if same_cid cid k.cid then Some k.spot else kept_spot kept cid
+
+-- keeping a spot of a call, if there is one and none is kept
+abbrev pub keep_one : Cid → Option Spot → List Kept → Bool → List Kept
+keep_one cid None kept known = kept
+keep_one cid (Some spot) kept known = if known then kept else kept ++ record { cid = cid; spot = spot } ∷ []
+
+-- of each call of a set of which no spot is kept, the least one is kept from now on
+abbrev pub keep_new : {Op : Type 0} → List (Acceptance Op) → SpotSet → List (Acceptance Op) → List Kept → List Kept
+keep_new all set [] kept = kept
+keep_new all set (a ∷ older) kept =
+    let before = keep_new all set older kept in
+    keep_one a.cid (least_spot all set a.cid) before (is_some (kept_spot before a.cid))

@@ -1,0 +1,144 @@
+-- Which outcomes an event may have, and which histories are legal.
+use Rattle.std.specs.Prelude.{◌≡◌, ◌^◌, ℕ, suc, Bool, true, false, ◌&&◌, not, ◌==◌, nat_lt, max, map, length, if◌then◌else◌, List, [], ◌∷◌, ◌++◌, Option, Some, None}
+use Rattle.lr_base.specs.Kinds.{is_query}
+use Rattle.lr_base.specs.Meaning.{Meaning}
+use Rattle.lr_base.specs.Rules.{same_cid}
+use Rattle.lr_base.specs.declared.events.Event.{Event}
+use Rattle.lr_base.specs.declared.events.Event.TheVariants.{Call, Deliver, Show}
+use Rattle.lr_base.specs.declared.events.Outcome.{Outcome}
+use Rattle.lr_base.specs.declared.events.Outcome.TheVariants.{Send, Accept, Hold, Got, Stale, NoMessage, Refuse, State}
+use Rattle.lr_base.specs.declared.events.Refusal.TheVariants.{Again, FullLog, FullHeld, Unfinished, Worn}
+use Rattle.lr_base.specs.declared.events.Sent.TheVariants.{Update, Query, Done, Answer}
+use Rattle.lr_base.specs.declared.events.StateLine.{StateLine}
+use Rattle.lr_base.specs.declared.events.Step.{Step}
+use Rattle.lr_base.specs.declared.names.Actor.{Actor}
+use Rattle.lr_base.specs.declared.names.Actor.TheVariants.{Client, Replica}
+use Rattle.lr_base.specs.declared.names.Cid.{Cid}
+use Rattle.lr_base.specs.declared.names.Config.{Config}
+use Rattle.lr_base.specs.declared.names.Spot.{Spot}
+use Rattle.lr_graph.specs.After.{after, delivered, event_read, lines_read, next_call}
+use Rattle.lr_graph.specs.Graph.{Carried, Facts, LabelledCall, SentMessage, UpdateCopy, QueryCopy, DoneReply, AnswerReply, calls_of, counts, first_facts, is_within, kept_spot, least_spot, made, ready, size_of, spots_of, value}
+use Rattle.lr_graph.specs.Sets.{SpotSet}
+
+-- the number of the next message
+abbrev pub next_number : {Op : Type 0} → Facts Op → ℕ
+next_number w = suc (length w.messages)
+
+-- what a replica still logs: what it received and others may lack; a lone replica logs nothing
+abbrev pub logged : {Op : Type 0} → Config → Facts Op → ℕ → SpotSet
+logged config w i spot = not (config.replicas == 1) && w.received i spot
+
+-- where a replica took a call before: at the spot that it keeps of the call, or else the least one that it logs
+abbrev pub taken_at : {Op : Type 0} → Config → Facts Op → ℕ → Cid → Option Spot → Option Spot
+taken_at config w i cid (Some spot) = Some spot
+taken_at config w i cid None = least_spot w.accepted (logged config w i) cid
+
+-- a call is sent where none is open and a number is left
+abbrev pub call_lines : {Value Op : Type 0} → Meaning Value Op → Facts Op → ℕ → ℕ → ℕ → Op → Option (LabelledCall Op) → Bool → List Outcome
+call_lines m w client replica clock op (Some call) worn = Refuse (Unfinished call.cid) ∷ []
+call_lines m w client replica clock op None true = Refuse Worn ∷ []
+call_lines m w client replica clock op None false =
+    let cid = (next_call client (w.front client) op).cid in
+    Send (next_number w) (Client client) (Replica replica) (if is_query (m.kind op) then Query cid else Update cid clock) ∷ []
+
+-- the reply to an update
+abbrev pub done_line : {Op : Type 0} → Facts Op → ℕ → Cid → Spot → Outcome
+done_line w i cid spot = Send (next_number w) (Replica i) (Client cid.client) (Done cid spot)
+
+-- a new update is refused where the log is full or the place's numbers are used up, and else takes the place's next spot
+abbrev pub accept_lines : {Op : Type 0} → Facts Op → ℕ → Cid → Bool → Bool → List Outcome
+accept_lines w i cid false number = Refuse FullLog ∷ []
+accept_lines w i cid true false = Refuse Worn ∷ []
+accept_lines w i cid true true =
+    let spot : Spot = record { place = i; number = suc (made w.accepted i) } in
+    Accept spot cid ∷ done_line w i cid spot ∷ []
+
+-- an update that was taken before is replied to again
+abbrev pub update_lines : {Op : Type 0} → Config → Facts Op → ℕ → Cid → Option Spot → List Outcome
+update_lines config w i cid (Some spot) = Refuse (Again spot) ∷ done_line w i cid spot ∷ []
+update_lines config w i cid None =
+    accept_lines w i cid (nat_lt (size_of w.accepted (logged config w i)) 512) (nat_lt (made w.accepted i) (2 ^ 62))
+
+-- the answer to a query: what the service reads after just what is ready
+abbrev pub answer_line : {Value Op : Type 0} → Meaning Value Op → Facts Op → ℕ → ℕ → LabelledCall Op → Outcome
+answer_line m w number i call =
+    Send number (Replica i) (Client call.cid.client) (Answer call.cid (m.read (value m w.accepted (ready w.accepted (w.received i))) call.op))
+
+-- a query is answered where all that its label names is received, and else held while there is room
+abbrev pub query_lines : {Value Op : Type 0} → Meaning Value Op → Facts Op → ℕ → LabelledCall Op → Bool → Bool → List Outcome
+query_lines m w i call true room = answer_line m w (next_number w) i call ∷ []
+query_lines m w i call false true = Hold call.cid ∷ []
+query_lines m w i call false false = Refuse FullHeld ∷ []
+
+-- a reply is taken by the call that is open, if it is that call's
+abbrev pub reply_line : {Op : Type 0} → Option (LabelledCall Op) → Cid → Outcome
+reply_line None cid = Stale cid
+reply_line (Some call) cid = if same_cid call.cid cid then Got cid else Stale cid
+
+-- a message comes to an actor: what has no rule there changes nothing
+abbrev pub message_lines : {Value Op : Type 0} → Meaning Value Op → Config → Facts Op → Actor → Carried Op → List Outcome
+message_lines m config w (Replica i) (UpdateCopy call time) = update_lines config w i call.cid (taken_at config w i call.cid (kept_spot (w.kept i) call.cid))
+message_lines m config w (Replica i) (QueryCopy call) = query_lines m w i call (is_within w.accepted call.label (w.received i)) (nat_lt (length (w.held i)) 1024)
+message_lines m config w (Client client) (DoneReply cid names) = reply_line (w.front client).open_call cid ∷ []
+message_lines m config w (Client client) (AnswerReply cid names) = reply_line (w.front client).open_call cid ∷ []
+message_lines m config w _ _ = []
+
+-- a message is delivered, where one of this number was sent
+abbrev pub delivery_lines : {Value Op : Type 0} → Meaning Value Op → Config → Facts Op → ℕ → Option (SentMessage Op) → List Outcome
+delivery_lines m config w number None = NoMessage number ∷ []
+delivery_lines m config w number (Some x) = message_lines m config w x.to x.what
+
+-- what is printed of a replica
+abbrev pub state_of : {Op : Type 0} → Config → Facts Op → ℕ → StateLine
+state_of config w i = record {
+  replica = i;
+  view = 0;
+  clock = 0;
+  received = counts w.accepted (w.received i) (suc config.replicas);
+  log = spots_of w.accepted (logged config w i);
+  acks = [];
+  calls = calls_of w.accepted (ready w.accepted (w.received i));
+  held = map (λ call. call.cid) (w.held i);
+  marks = [];
+}
+
+-- what an event itself does
+abbrev pub own_lines : {Value Op : Type 0} → Meaning Value Op → Config → Facts Op → Event Op → List Outcome
+own_lines m config w (Call client replica reading op) =
+    let front = w.front client in
+    call_lines m w client replica (max front.clock reading) op front.open_call (front.calls == 2 ^ 62)
+own_lines m config w (Deliver message) = delivery_lines m config w message (delivered w (Deliver message))
+own_lines m config w (Show replica) = State (state_of config w replica) ∷ []
+
+-- each held query whose label is now received is answered, in the order of arrival
+abbrev pub answers : {Value Op : Type 0} → Meaning Value Op → Facts Op → ℕ → ℕ → List (LabelledCall Op) → List Outcome
+answers m w number i [] = []
+answers m w number i (call ∷ calls) =
+    if is_within w.accepted call.label (w.received i)
+    then answer_line m w number i call ∷ answers m w (suc number) i calls
+    else answers m w number i calls
+
+-- the held queries that are answered at the end of an actor's step
+abbrev pub answers_of : {Value Op : Type 0} → Meaning Value Op → Facts Op → Actor → List Outcome
+answers_of m w (Replica i) = answers m w (next_number w) i (w.held i)
+answers_of m w (Client client) = []
+
+-- those at the end of a step in which a message came, if one did
+abbrev pub answers_at : {Value Op : Type 0} → Meaning Value Op → Facts Op → Option (SentMessage Op) → List Outcome
+answers_at m w None = []
+answers_at m w (Some x) = answers_of m w x.to
+
+-- the only outcomes that an event may have
+abbrev pub outcomes_of : {Value Op : Type 0} → Meaning Value Op → Config → Facts Op → Event Op → List Outcome
+outcomes_of m config w event =
+    let own = own_lines m config w event in
+    own ++ answers_at m (lines_read (delivered w event) (event_read w event) own) (delivered w event)
+
+-- each step has just the outcomes that its event may have after the steps before it
+abbrev pub LegalFrom : {Value Op : Type 0} → Meaning Value Op → Config → Facts Op → List (Step Op) → Type 0
+LegalFrom m config w [] = Unit {0}
+LegalFrom m config w (step ∷ steps) = (step.outcomes ≡ outcomes_of m config w step.event) × LegalFrom m config (after w step) steps
+
+-- a legal history
+abbrev pub IsLegal : {Value Op : Type 0} → Meaning Value Op → Config → List (Step Op) → Type 0
+IsLegal m config steps = LegalFrom m config first_facts steps

@@ -1,0 +1,5 @@
+pub mod Sets
+pub mod Graph
+pub mod After
+pub mod Legal
+pub mod Worked

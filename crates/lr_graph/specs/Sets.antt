@@ -1,0 +1,55 @@
+-- Sets of spots, as tests, and lists made of them.
+use Rattle.std.specs.Prelude.{ℕ, suc, Bool, false, ◌&&◌, ◌||◌, ◌==◌, nat_lt, if◌then◌else◌, List, [], ◌∷◌, Option, Some, None}
+use Rattle.lr_base.specs.Rules.{same_cid, is_before}
+use Rattle.lr_base.specs.declared.names.Cid.{Cid}
+use Rattle.lr_base.specs.declared.names.Spot.{Spot}
+
+-- a set of spots: whether a spot is in it
+abbrev pub SpotSet : Type 0
+SpotSet = Spot → Bool
+
+-- whether two spots are one
+abbrev pub same_spot : Spot → Spot → Bool
+same_spot a b = (a.place == b.place) && (a.number == b.number)
+
+-- the set of no spot
+abbrev pub nothing : SpotSet
+nothing spot = false
+
+-- the set of this spot alone
+abbrev pub only : Spot → SpotSet
+only one spot = same_spot spot one
+
+-- the spots of either set
+infixl 35 ◌∪◌
+abbrev pub ◌∪◌ : SpotSet → SpotSet → SpotSet
+◌∪◌ a b spot = a spot || b spot
+
+-- what is kept by number, with x at i
+abbrev pub put_at : {X : Type 0} → ℕ → X → (ℕ → X) → ℕ → X
+put_at i x table j = if j == i then x else table j
+
+-- how many of these pass the test
+abbrev pub how_many : {X : Type 0} → (X → Bool) → List X → ℕ
+how_many test [] = 0
+how_many test (x ∷ xs) = if test x then suc (how_many test xs) else how_many test xs
+
+-- the lesser of a spot and another, if there is another
+abbrev pub lesser : Spot → Option Spot → Option Spot
+lesser a None = Some a
+lesser a (Some b) = Some (if is_before a b then a else b)
+
+-- whether a call comes before another: by client, and then by number
+abbrev pub cid_before : Cid → Cid → Bool
+cid_before a b = nat_lt a.client b.client || ((a.client == b.client) && nat_lt a.seq b.seq)
+
+-- the ascending list with this call in it, once
+abbrev pub put_call : Cid → List Cid → List Cid
+put_call cid [] = cid ∷ []
+put_call cid (x ∷ cids) =
+    if same_cid cid x then x ∷ cids else (if cid_before cid x then cid ∷ x ∷ cids else x ∷ put_call cid cids)
+
+-- the ascending list with this spot in it
+abbrev pub put_spot : Spot → List Spot → List Spot
+put_spot spot [] = spot ∷ []
+put_spot spot (x ∷ spots) = if is_before spot x then spot ∷ x ∷ spots else x ∷ put_spot spot spots

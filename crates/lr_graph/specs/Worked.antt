@@ -1,0 +1,44 @@
+-- Small histories of the tally, with one replica and one client.
+use Rattle.std.specs.Prelude.{ℕ, List, [], ◌∷◌, codes}
+use Rattle.lr_base.specs.declared.events.Event.{Event}
+use Rattle.lr_base.specs.declared.events.Event.TheVariants.{Call, Deliver, Show}
+use Rattle.lr_base.specs.declared.events.Outcome.{Outcome}
+use Rattle.lr_base.specs.declared.events.Outcome.TheVariants.{Send, Accept, Got, State}
+use Rattle.lr_base.specs.declared.events.Sent.TheVariants.{Update, Query, Done, Answer}
+use Rattle.lr_base.specs.declared.events.Step.{Step}
+use Rattle.lr_base.specs.declared.names.Actor.TheVariants.{Client, Replica}
+use Rattle.lr_base.specs.declared.names.Cid.{Cid}
+use Rattle.lr_base.specs.declared.names.Config.{Config}
+use Rattle.lr_base.specs.declared.names.Spot.{Spot}
+use Rattle.lr_base.specs.declared.svc_tally.op.TallyOp.{TallyOp}
+use Rattle.lr_base.specs.declared.svc_tally.op.TallyOp.TheVariants.{Add, Read}
+
+-- one replica, one client, and a delta of 10
+abbrev pub small : Config
+small = record { replicas = 1; clients = 1; delta = 10 }
+
+-- the first two calls of the client, and the first spot of the replica
+abbrev pub first_call : Cid
+first_call = record { client = 0; seq = 1 }
+
+abbrev pub second_call : Cid
+second_call = record { client = 0; seq = 2 }
+
+abbrev pub first_spot : Spot
+first_spot = record { place = 0; number = 1 }
+
+-- an event with its outcomes
+abbrev step : Event TallyOp → List Outcome → Step TallyOp
+step event outcomes = record { event = event; outcomes = outcomes }
+
+-- an addition and then a read that has this answer, and what the front end prints of the addition's reply
+abbrev pub add_and_read : List Outcome → List ℕ → List (Step TallyOp)
+add_and_read got text =
+    step (Call 0 0 5 (Add (codes "x") 3)) (Send 1 (Client 0) (Replica 0) (Update first_call 5) ∷ [])
+    ∷ step (Deliver 1) (Accept first_spot first_call ∷ Send 2 (Replica 0) (Client 0) (Done first_call first_spot) ∷ [])
+    ∷ step (Deliver 2) got
+    ∷ step (Call 0 0 6 (Read (codes "x"))) (Send 3 (Client 0) (Replica 0) (Query second_call) ∷ [])
+    ∷ step (Deliver 3) (Send 4 (Replica 0) (Client 0) (Answer second_call text) ∷ [])
+    ∷ step (Deliver 4) (Got second_call ∷ [])
+    ∷ step (Show 0) (State (record { replica = 0; view = 0; clock = 0; received = 1 ∷ 0 ∷ []; log = []; acks = []; calls = first_call ∷ []; held = []; marks = [] }) ∷ [])
+    ∷ []
