@@ -71,15 +71,17 @@ takes_reply w client names =
     let front = w.front client in
     record w { front = put_at client (record front { label = front.label ∪ names; open_call = None }) w.front }
 
--- the facts after a line about a message that came to an actor
+-- the facts after `accept`: a replica that an update came to accepts its call
 abbrev pub accept_read : {Op : Type 0} → Facts Op → Spot → Actor → Carried Op → Facts Op
 accept_read w spot (Replica i) (UpdateCopy call time) = accepts w i spot call
 accept_read w spot _ _ = w
 
+-- the facts after `hold`: a replica that a query came to holds it behind the others
 abbrev pub hold_read : {Op : Type 0} → Facts Op → Actor → Carried Op → Facts Op
 hold_read w (Replica i) (QueryCopy call) = record w { held = put_at i (w.held i ++ call ∷ []) w.held }
 hold_read w _ _ = w
 
+-- the facts after `got`: a front end that a reply came to takes it
 abbrev pub got_read : {Op : Type 0} → Facts Op → Actor → Carried Op → Facts Op
 got_read w (Client client) (DoneReply cid names) = takes_reply w client names
 got_read w (Client client) (AnswerReply cid names) = takes_reply w client names

@@ -89,8 +89,8 @@ delivery_lines m config w number None = NoMessage number ∷ []
 delivery_lines m config w number (Some x) = message_lines m config w x.to x.what
 
 -- what is printed of a replica
-abbrev pub state_of : {Op : Type 0} → Config → Facts Op → ℕ → StateLine
-state_of config w i = record {
+abbrev pub state_line_of : {Op : Type 0} → Config → Facts Op → ℕ → StateLine
+state_line_of config w i = record {
   replica = i;
   view = 0;
   clock = 0;
@@ -108,7 +108,7 @@ own_lines m config w (Call client replica reading op) =
     let front = w.front client in
     call_lines m w client replica (max front.clock reading) op front.open_call (front.calls == 2 ^ 62)
 own_lines m config w (Deliver message) = delivery_lines m config w message (delivered w (Deliver message))
-own_lines m config w (Show replica) = State (state_of config w replica) ∷ []
+own_lines m config w (Show replica) = State (state_line_of config w replica) ∷ []
 
 -- each held query whose label is now received is answered, in the order of arrival
 abbrev pub answers : {Value Op : Type 0} → Meaning Value Op → Facts Op → ℕ → ℕ → List (LabelledCall Op) → List Outcome

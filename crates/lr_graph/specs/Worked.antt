@@ -17,13 +17,15 @@ use Rattle.lr_base.specs.declared.svc_tally.op.TallyOp.TheVariants.{Add, Read}
 abbrev pub small : Config
 small = record { replicas = 1; clients = 1; delta = 10 }
 
--- the first two calls of the client, and the first spot of the replica
+-- the client's first call
 abbrev pub first_call : Cid
 first_call = record { client = 0; seq = 1 }
 
+-- the client's second call
 abbrev pub second_call : Cid
 second_call = record { client = 0; seq = 2 }
 
+-- the replica's first spot
 abbrev pub first_spot : Spot
 first_spot = record { place = 0; number = 1 }
 
