@@ -1,4 +1,3 @@
 mod NumberLemmas
 mod Order
-mod StampLaws
 mod TallyLemmas

@@ -1,9 +1,14 @@
+pub mod Ascending
 pub mod Config
+pub mod Fronts
 pub mod Kinds
 pub mod Lattice
 pub mod Meaning
+pub mod Replicas
 pub mod Rules
+pub mod StampLaws
 pub mod Stamps
+pub mod Steps
 pub mod Tally
 pub mod TallyLaw
 pub mod Word

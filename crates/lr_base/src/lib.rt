@@ -1,6 +1,7 @@
 //! What every crate speaks of: stamps, calls, messages, events, outcomes, and what a service is.
 #![tactic(auto)]
 
+mod acts;
 mod events;
 mod laws;
 pub mod lr_service;
@@ -12,6 +13,7 @@ mod stamp;
 pub mod svc_tally;
 mod word;
 
+pub use acts::{Act, Posted};
 pub use events::{Event, Outcome, Refusal, Sent, StateLine, Step};
 pub use laws::{join_is_least, order_of_stamps, set_part_changes_one};
 pub use messages::{Call, Fresh, Known, LogAck, LogUpdate, Message};

@@ -37,6 +37,22 @@ delivered w (Call client replica reading op) = None
 delivered w (Deliver message) = find (λ x. x.number == message) w.messages
 delivered w (Show replica) = None
 
+-- the replica that an actor is
+abbrev pub replica_of : Actor → Option ℕ
+replica_of (Replica i) = Some i
+replica_of (Client client) = None
+
+-- the replica that a message comes to, if one came and it is a replica's
+abbrev pub receiving : {Op : Type 0} → Option (SentMessage Op) → Option ℕ
+receiving None = None
+receiving (Some x) = replica_of x.to
+
+-- the replica that an event is a step of, if it is a replica's
+abbrev pub stepping : {Op : Type 0} → Facts Op → Event Op → Option ℕ
+stepping w (Call client replica reading op) = None
+stepping w (Deliver message) = receiving (delivered w (Deliver message))
+stepping w (Show replica) = None
+
 -- the causes of a causal update: what its label names
 abbrev pub causes_of : {Op : Type 0} → LabelledCall Op → SpotSet
 causes_of call = call.label
@@ -109,20 +125,18 @@ lines_read x w [] = w
 lines_read x w (line ∷ lines) = lines_read x (line_read x w line) lines
 
 -- at the end of a replica's step its answered queries are held no more, and it keeps a spot of each call that got ready
-abbrev pub replica_ended : {Op : Type 0} → Facts Op → Actor → Facts Op
-replica_ended w (Client client) = w
-replica_ended w (Replica i) = record w {
+abbrev pub replica_ended : {Op : Type 0} → Facts Op → ℕ → Facts Op
+replica_ended w i = record w {
   held = put_at i (filter (λ call. not (is_within w.accepted call.label (w.received i))) (w.held i)) w.held;
   kept = put_at i (keep_new w.accepted (ready w.accepted (w.received i)) w.accepted (w.kept i)) w.kept;
 }
 
--- the facts at the end of a step in which a message came, if one did
-abbrev pub step_ended : {Op : Type 0} → Option (SentMessage Op) → Facts Op → Facts Op
+-- the facts at the end of a step of this replica, if it is a replica's
+abbrev pub step_ended : {Op : Type 0} → Option ℕ → Facts Op → Facts Op
 step_ended None w = w
-step_ended (Some x) w = replica_ended w x.to
+step_ended (Some i) w = replica_ended w i
 
 -- the facts after a step
 abbrev pub after : {Op : Type 0} → Facts Op → Step Op → Facts Op
 after w step =
-    let x = delivered w step.event in
-    step_ended x (lines_read x (event_read w step.event) step.outcomes)
+    step_ended (stepping w step.event) (lines_read (delivered w step.event) (event_read w step.event) step.outcomes)

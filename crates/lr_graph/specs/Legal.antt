@@ -16,7 +16,7 @@ use Rattle.lr_base.specs.declared.names.Actor.TheVariants.{Client, Replica}
 use Rattle.lr_base.specs.declared.names.Cid.{Cid}
 use Rattle.lr_base.specs.declared.names.Config.{Config}
 use Rattle.lr_base.specs.declared.names.Spot.{Spot}
-use Rattle.lr_graph.specs.After.{after, delivered, event_read, lines_read, next_call}
+use Rattle.lr_graph.specs.After.{after, delivered, event_read, lines_read, next_call, stepping}
 use Rattle.lr_graph.specs.Graph.{Carried, Facts, LabelledCall, SentMessage, UpdateCopy, QueryCopy, DoneReply, AnswerReply, calls_of, counts, first_facts, is_within, kept_spot, least_spot, made, ready, size_of, spots_of, value}
 use Rattle.lr_graph.specs.Sets.{SpotSet}
 
@@ -118,21 +118,16 @@ answers m w number i (call ∷ calls) =
     then answer_line m w number i call ∷ answers m w (suc number) i calls
     else answers m w number i calls
 
--- the held queries that are answered at the end of an actor's step
-abbrev pub answers_of : {Value Op : Type 0} → Meaning Value Op → Facts Op → Actor → List Outcome
-answers_of m w (Replica i) = answers m w (next_number w) i (w.held i)
-answers_of m w (Client client) = []
-
--- those at the end of a step in which a message came, if one did
-abbrev pub answers_at : {Value Op : Type 0} → Meaning Value Op → Facts Op → Option (SentMessage Op) → List Outcome
+-- the held queries that are answered at the end of a step of this replica, if it is a replica's
+abbrev pub answers_at : {Value Op : Type 0} → Meaning Value Op → Facts Op → Option ℕ → List Outcome
 answers_at m w None = []
-answers_at m w (Some x) = answers_of m w x.to
+answers_at m w (Some i) = answers m w (next_number w) i (w.held i)
 
 -- the only outcomes that an event may have
 abbrev pub outcomes_of : {Value Op : Type 0} → Meaning Value Op → Config → Facts Op → Event Op → List Outcome
 outcomes_of m config w event =
     let own = own_lines m config w event in
-    own ++ answers_at m (lines_read (delivered w event) (event_read w event) own) (delivered w event)
+    own ++ answers_at m (lines_read (delivered w event) (event_read w event) own) (stepping w event)
 
 -- each step has just the outcomes that its event may have after the steps before it
 abbrev pub LegalFrom : {Value Op : Type 0} → Meaning Value Op → Config → Facts Op → List (Step Op) → Type 0

@@ -6,7 +6,7 @@ use Rattle.lr_base.specs.declared.lr_service.Kind.{Kind}
 use Rattle.lr_base.specs.declared.lr_service.Kind.TheVariants.{Query, Causal, Forced, Immediate}
 use Rattle.lr_base.specs.declared.names.Config.{Config}
 use Rattle.lr_base.specs.declared.messages.Message.{Message}
-use Rattle.lr_sim.specs.Fronts.{FrontState, message_of}
+use Rattle.lr_base.specs.Fronts.{FrontState, message_of}
 use Rattle.lr_sim.specs.Shapes.{IsShaped}
 
 module _ {Op : Type 0} (kind_of : Op → Kind) (config : Config) (front : FrontState) (reading : ℕ) (op : Op) where

@@ -10,15 +10,15 @@ use Rattle.lr_base.specs.declared.names.Actor.TheVariants.{Replica}
 use Rattle.lr_base.specs.declared.names.Cid.{Cid}
 use Rattle.lr_base.specs.declared.names.Config.{Config}
 use Rattle.lr_sim.specs.FrontAnswers.{HasAnswered}
-use Rattle.lr_sim.specs.Fronts.{FrontState, called, clock_read, message_of, new_front}
-use Rattle.lr_sim.specs.Replicas.{ReplicaState}
-use Rattle.lr_sim.specs.Replicas.{first_replica}
-use Rattle.lr_sim.specs.Runs.{RunState, acted, first_fronts, first_replicas, front_after, front_given, front_lines, replica_given, run_after, stepped, steps_from, unchanged, with_front}
-use Rattle.lr_sim.specs.Steps.{taken}
-use Rattle.lr_sim.specs.declared.act.Act.{Act}
+use Rattle.lr_base.specs.Fronts.{FrontState, called, clock_read, message_of, new_front}
+use Rattle.lr_base.specs.Replicas.{ReplicaState}
+use Rattle.lr_base.specs.Replicas.{first_replica}
+use Rattle.lr_graph.specs.Runs.{RunState, acted, first_fronts, first_replicas, front_after, front_given, front_lines, replica_given, run_after, stepped, steps_from, unchanged, with_front}
+use Rattle.lr_base.specs.Steps.{taken}
+use Rattle.lr_base.specs.declared.acts.Act.{Act}
 use Rattle.lr_sim.specs.declared.front.CallFault.{CallFault}
 use Rattle.lr_sim.specs.declared.front.CallFault.TheVariants.{Unfinished, Worn, NoMemory}
-use Rattle.lr_sim.specs.declared.posted.Posted.{Posted}
+use Rattle.lr_base.specs.declared.acts.Posted.{Posted}
 
 -- what follows from a success
 pub map-ok : {A E : Type 0} (result : Result A E) (P Q : A → Type 0) → ((x : A) → P x → Q x) → IfOk result P → IfOk result Q

@@ -9,7 +9,7 @@ use Rattle.std.specs.declared.cmp.Ordering.TheVariants.{Less, Equal, Greater}
 use Rattle.std.proofs.lemmas.List.Sorted.{IsPermutation-keeps}
 use Rattle.std.proofs.lemmas.Bool.Decides.{nat_tests}
 use Rattle.lr_base.specs.declared.names.Cid.{Cid}
-use Rattle.lr_sim.specs.Ascending.{ascending, cid_before, put_cid}
+use Rattle.lr_base.specs.Ascending.{ascending, cid_before, put_cid}
 
 -- of two calls at most one comes before the other
 one_way : (a b : Cid) → cid_before b a ≡ true → cid_before a b ≡ true → ⊥

@@ -11,7 +11,7 @@ use Rattle.lr_base.specs.declared.events.Step.{Step}
 use Rattle.lr_sim.proofs.PrintedLemmas.{steps_text-more}
 use Rattle.lr_sim.proofs.RunLemmas.{length-steps_from, run_after-more, steps_from-more}
 use Rattle.lr_sim.specs.Printed.{step_text, steps_text}
-use Rattle.lr_sim.specs.Runs.{RunState, first_run, run_after, stepped, steps_from}
+use Rattle.lr_graph.specs.Runs.{RunState, first_run, run_after, stepped, steps_from}
 use Rattle.lr_sim.specs.Script.{line_of}
 use Rattle.lr_sim.specs.Texts.{header_text}
 use Rattle.lr_sim.specs.Written.{HasPrinted, HasBegun, HasMoved}

@@ -3,8 +3,8 @@ use Rattle.std.specs.Prelude.{◌≡◌, ◌^◌, ◌≢◌, ℕ, None, Some, Re
 use Rattle.std.specs.List.{slice_get}
 use Rattle.lr_base.specs.declared.lr_service.Kind.{Kind}
 use Rattle.lr_base.specs.declared.messages.Message.{Message}
-use Rattle.lr_sim.specs.Fronts.{FrontState, called, clock_read, message_of}
-use Rattle.lr_sim.specs.Runs.{RunState, with_front}
+use Rattle.lr_base.specs.Fronts.{FrontState, called, clock_read, message_of}
+use Rattle.lr_graph.specs.Runs.{RunState, with_front}
 use Rattle.lr_sim.specs.declared.front.CallFault.{CallFault}
 use Rattle.lr_sim.specs.declared.front.CallFault.TheVariants.{Unfinished, Worn, NoMemory}
 

@@ -1,16 +1,11 @@
-pub mod Ascending
 pub mod Ends
 pub mod Faults
 pub mod Fields
 pub mod FrontAnswers
-pub mod Fronts
 pub mod Posts
 pub mod Printed
-pub mod Replicas
-pub mod Runs
 pub mod Script
 pub mod Shapes
-pub mod Steps
 pub mod Texts
 pub mod Worlds
 pub mod Written

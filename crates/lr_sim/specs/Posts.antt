@@ -3,9 +3,9 @@ use Rattle.std.specs.Prelude.{◌≡◌, ◌+◌, ℕ, List, length, slice_get}
 use Rattle.std.specs.Option.{ForSome}
 use Rattle.lr_base.specs.declared.lr_service.Kind.{Kind}
 use Rattle.lr_base.specs.declared.names.Config.{Config}
-use Rattle.lr_sim.specs.Fronts.{FrontState}
+use Rattle.lr_base.specs.Fronts.{FrontState}
 use Rattle.lr_sim.specs.Shapes.{IsSendable}
-use Rattle.lr_sim.specs.declared.posted.Posted.{Posted}
+use Rattle.lr_base.specs.declared.acts.Posted.{Posted}
 
 -- each message that was sent may be delivered
 abbrev pub AllPosted : {Op : Type 0} → (Op → Kind) → Config → List (Posted Op) → Type 0

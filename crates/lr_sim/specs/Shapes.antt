@@ -5,8 +5,8 @@ use Rattle.lr_base.specs.declared.lr_service.Kind.{Kind}
 use Rattle.lr_base.specs.declared.names.Actor.{Actor}
 use Rattle.lr_base.specs.declared.names.Actor.TheVariants.{Client, Replica}
 use Rattle.lr_base.specs.declared.names.Config.{Config}
-use Rattle.lr_sim.specs.declared.act.Act.{Act}
-use Rattle.lr_sim.specs.declared.act.Act.TheVariants.{Say, Send}
+use Rattle.lr_base.specs.declared.acts.Act.{Act}
+use Rattle.lr_base.specs.declared.acts.Act.TheVariants.{Say, Send}
 use Rattle.lr_base.specs.declared.events.Event.{Event}
 use Rattle.lr_base.specs.declared.events.Event.TheVariants.{Call, Deliver, Show}
 use Rattle.lr_base.specs.declared.messages.Message.{Message}

@@ -1,7 +1,7 @@
 -- What contracts see of a world.
 use Rattle.std.specs.Prelude.{ℕ, length}
 use Rattle.lr_base.specs.declared.names.Config.{Config}
-use Rattle.lr_sim.specs.Runs.{RunState}
+use Rattle.lr_graph.specs.Runs.{RunState}
 use Rattle.lr_sim.specs.declared.world.World.{World}
 
 -- what the run is set up with

@@ -4,7 +4,7 @@ use Rattle.std.specs.Io.KnownBytes.{Appends}
 use Rattle.lr_base.specs.Meaning.{Meaning}
 use Rattle.lr_base.specs.declared.events.Event.{Event}
 use Rattle.lr_sim.specs.Printed.{printed}
-use Rattle.lr_sim.specs.Runs.{history_of}
+use Rattle.lr_graph.specs.Runs.{history_of}
 use Rattle.lr_sim.specs.declared.script.Header.{Header}
 
 -- the history that these events make was printed: what was written is the front of its text, and this is the rest

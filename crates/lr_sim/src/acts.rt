@@ -1,9 +1,8 @@
 //! What a step of a replica does, in order.
 ghost use Rattle.std.specs.Prelude.{◌≡◌, [], ◌∷◌, ◌++◌, IfOk, OnOk};
 
-use crate::act::Act;
 use lr_base::lr_service::Operation;
-use lr_base::{Actor, Message, NoMemory, Outcome};
+use lr_base::{Act, Actor, Message, NoMemory, Outcome};
 use std::alloc::Global;
 use std::collections::VecDeque;
 

@@ -1,7 +1,7 @@
 //! A client's side of its calls.
 ghost use Rattle.std.specs.Prelude.{◌≡◌, ◌↔◌, ◌+◌, ◌<◌, ◌^◌, None, Some, max, length, replicate, IfOk, IsErrOf, ◌≢◌, ◌≤◌};
 ghost use Rattle.lr_base.specs.Stamps.{join};
-ghost use Rattle.lr_sim.specs.Fronts.{FrontState, called, clock_read, message_of, new_front, reply_taken};
+ghost use Rattle.lr_base.specs.Fronts.{FrontState, called, clock_read, message_of, new_front, reply_taken};
 
 use lr_base::lr_service::{Kind, Operation};
 use lr_base::{Call, Cid, Message, NoMemory, Stamp};
@@ -40,7 +40,7 @@ pub struct Front {
 }
 
 impl Model for Front {
-    ghost use Rattle.lr_sim.specs.Fronts.{FrontState};
+    ghost use Rattle.lr_base.specs.Fronts.{FrontState};
     ghost use Rattle.std.specs.Prelude.{◌≤◌, ◌^◌};
 
     ghost Value = { FrontState };

@@ -1,11 +1,9 @@
 //! The run of one script: its bytes are read as events, and what they do is printed.
 #![tactic(auto)]
 
-mod act;
 mod acts;
 mod command;
 mod front;
-mod posted;
 mod replica;
 mod report;
 mod script;

@@ -1,11 +1,10 @@
 //! One replica: what it does with a message, and the queries that it holds.
 ghost use Rattle.std.specs.Prelude.{◌≡◌, ◌∷◌, [], IfOk};
 
-use crate::act::Act;
 use crate::acts::{Acts, no_act, say, send};
 use lr_base::lr_service::{Operation, Service};
 use lr_base::{
-    Actor, Call, Cid, Config, Fresh, Message, NoMemory, Outcome, Refusal, Rows, Spot, Stamp,
+    Act, Actor, Call, Cid, Config, Fresh, Message, NoMemory, Outcome, Refusal, Rows, Spot, Stamp,
     StateLine, Text,
 };
 use lr_causal::Causal;
@@ -26,7 +25,7 @@ pub struct Replica<S: Service> {
 
 impl<S: Service> Model for Replica<S> {
     ghost use Rattle.lr_causal.specs.State.{config_of, me_of, state_of};
-    ghost use Rattle.lr_sim.specs.Replicas.{ReplicaState};
+    ghost use Rattle.lr_base.specs.Replicas.{ReplicaState};
 
     ghost Value = { ReplicaState S S.Op };
 
@@ -38,11 +37,11 @@ impl<S: Service> Replica<S> {
     ghost use Rattle.lr_base.specs.Config.{IsValid};
     ghost use Rattle.lr_base.specs.Kinds.{IsQuery, IsUpdate};
     ghost use Rattle.lr_base.specs.declared.names.Actor.TheVariants.{Client};
-    ghost use Rattle.lr_sim.specs.Ascending.{ascending};
+    ghost use Rattle.lr_base.specs.Ascending.{ascending};
     ghost use Rattle.lr_sim.specs.Shapes.{AllFitting, IsShaped};
     ghost use Rattle.lr_base.specs.Rules.{answer_of, fresh_of};
-    ghost use Rattle.lr_sim.specs.Replicas.{first_replica, state_line_of};
-    ghost use Rattle.lr_sim.specs.Steps.{call_taken, has_number, has_room, query_held, query_taken, taken, update_taken};
+    ghost use Rattle.lr_base.specs.Replicas.{first_replica, state_line_of};
+    ghost use Rattle.lr_base.specs.Steps.{call_taken, has_number, has_room, query_held, query_taken, taken, update_taken};
 
     /// A replica at which nothing has happened.
     pub fn new(alloc: Global, config: Config, me: u8) -> Result<Self, NoMemory>

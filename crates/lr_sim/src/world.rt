@@ -2,17 +2,15 @@
 ghost use Rattle.std.specs.Prelude.{◌≡◌, ◌∷◌, [], length, vec_len, IfOk};
 ghost use Rattle.lr_base.specs.Config.{IsValid};
 ghost use Rattle.lr_sim.specs.Posts.{AllFronts, AllPosted};
-ghost use Rattle.lr_sim.specs.Replicas.{AllReplicas};
-ghost use Rattle.lr_sim.specs.Runs.{first_fronts, first_replicas, front_after, front_lines, sent_of_message};
+ghost use Rattle.lr_base.specs.Replicas.{AllReplicas};
+ghost use Rattle.lr_graph.specs.Runs.{first_fronts, first_replicas, front_after, front_lines, sent_of_message};
 ghost use Rattle.lr_sim.specs.Shapes.{stamp_in};
 
-use crate::act::Act;
 use crate::acts::Acts;
 use crate::front::{CallFault, Front, Taken};
-use crate::posted::Posted;
 use crate::replica::Replica;
 use lr_base::lr_service::{Operation, Service};
-use lr_base::{Actor, Cid, Config, Event, Message, NoMemory, Outcome, Refusal, Rows, Sent};
+use lr_base::{Act, Actor, Cid, Config, Event, Message, NoMemory, Outcome, Posted, Refusal, Rows, Sent};
 use std::alloc::Global;
 
 /// The replicas, a front end for each client, and the messages, each of which may be delivered at any time.
@@ -35,7 +33,7 @@ impl<S: Service> World<S> {
     ghost use Rattle.std.specs.Option.{ForSome};
     ghost use Rattle.lr_base.specs.Config.{IsValid};
     ghost use Rattle.lr_sim.specs.Shapes.{AllFitting, IsInRange, IsSendable, IsShaped};
-    ghost use Rattle.lr_sim.specs.Runs.{act_lines, act_posts, acted, client_called, delivered, first_run, given, message_at, stepped};
+    ghost use Rattle.lr_graph.specs.Runs.{act_lines, act_posts, acted, client_called, delivered, first_run, given, message_at, stepped};
     ghost use Rattle.lr_sim.specs.FrontAnswers.{HasCalled};
     ghost use Rattle.lr_sim.specs.Worlds.{posted_count, run_of, setup_of};
 

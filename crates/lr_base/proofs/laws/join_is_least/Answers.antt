@@ -1,4 +1,4 @@
-use Rattle.lr_base.proofs.StampLaws.{join-assoc, join-comm, join-least, join-self, length-join, part-join}
+use Rattle.lr_base.specs.StampLaws.{join-assoc, join-comm, join-least, join-self, length-join, part-join}
 use Rattle.lr_base.proofs.laws.join_is_least.Goals as goal
 
 pub returns-clause-least : goal.returns-clause-least

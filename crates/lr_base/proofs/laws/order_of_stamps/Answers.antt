@@ -1,4 +1,4 @@
-use Rattle.lr_base.proofs.StampLaws.{parts-stamp_le, stamp_le-parts, stamp_le-refl, stamp_le-trans, stamp_le-antisymm, stamp_le-zeros}
+use Rattle.lr_base.specs.StampLaws.{parts-stamp_le, stamp_le-parts, stamp_le-refl, stamp_le-trans, stamp_le-antisymm, stamp_le-zeros}
 use Rattle.lr_base.proofs.laws.order_of_stamps.Goals as goal
 
 pub returns-clause-order : goal.returns-clause-order

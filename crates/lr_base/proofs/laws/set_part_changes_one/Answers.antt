@@ -1,4 +1,4 @@
-use Rattle.lr_base.proofs.StampLaws.{length-set_part, part-set_part, part-set_part_other}
+use Rattle.lr_base.specs.StampLaws.{length-set_part, part-set_part, part-set_part_other}
 use Rattle.lr_base.proofs.laws.set_part_changes_one.Goals as goal
 
 pub returns-clause-own : goal.returns-clause-own

@@ -1,5 +1,5 @@
 use Rattle.std.proofs.Common.{◌∙◌, ◌+◌, ◌++◌, List, ℕ, ap, refl, arith}
-use Rattle.lr_sim.specs.Runs.{stepped}
+use Rattle.lr_graph.specs.Runs.{stepped}
 use Rattle.lr_sim.specs.Script.{Fits, line_of}
 use Rattle.lr_sim.specs.Texts.{header_text}
 use Rattle.lr_sim.proofs.InRange.{All-read, IsInRange-fits}

@@ -3,7 +3,7 @@ use Rattle.std.proofs.lemmas.Grind.{common_steps}
 use Rattle.std.proofs.lemmas.List.{length-replicate}
 use Rattle.lr_sim.proofs.Everywhere.{each-pushed}
 use Rattle.lr_sim.proofs.RunLemmas.{first_fronts-more}
-use Rattle.lr_sim.specs.Fronts.{FrontState}
+use Rattle.lr_base.specs.Fronts.{FrontState}
 use Rattle.lr_sim.specs.Posts.{IsFront}
 use Rattle.lr_sim.proofs.world.make_fronts.Goals as goal
 

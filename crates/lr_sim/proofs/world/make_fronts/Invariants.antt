@@ -1,6 +1,6 @@
 use Rattle.std.proofs.Common.{◌≡◌, vec_len}
 use Rattle.lr_sim.specs.Posts.{AllFronts}
-use Rattle.lr_sim.specs.Runs.{first_fronts}
+use Rattle.lr_graph.specs.Runs.{first_fronts}
 use Rattle.lr_sim.proofs.world.make_fronts.Given as goal
 
 -- there is one for each client so far

@@ -2,7 +2,7 @@ use Rattle.std.proofs.Common.{◌∙◌, ◌++◌, ◌∷◌, [], ap, arith, sym
 use Rattle.std.proofs.lemmas.Grind.{common_steps}
 use Rattle.lr_sim.proofs.Everywhere.{each-pushed}
 use Rattle.lr_sim.proofs.RunLemmas.{first_replicas-more}
-use Rattle.lr_sim.specs.Replicas.{IsReplica}
+use Rattle.lr_base.specs.Replicas.{IsReplica}
 use Rattle.lr_sim.proofs.world.make_replicas.Goals as goal
 
 pub loop-me-preserved : goal.loop-me-preserved

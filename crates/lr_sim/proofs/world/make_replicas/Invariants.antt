@@ -1,6 +1,6 @@
 use Rattle.std.proofs.Common.{◌≡◌, vec_len}
-use Rattle.lr_sim.specs.Replicas.{AllReplicas}
-use Rattle.lr_sim.specs.Runs.{first_replicas}
+use Rattle.lr_base.specs.Replicas.{AllReplicas}
+use Rattle.lr_graph.specs.Runs.{first_replicas}
 use Rattle.lr_sim.proofs.world.make_replicas.Given as goal
 
 -- there is one for each place so far

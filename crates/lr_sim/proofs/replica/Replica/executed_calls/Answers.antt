@@ -1,6 +1,6 @@
 -- The calls of the table, sorted, are those calls in ascending order.
 use Rattle.std.proofs.Common.{◌≡◌, ◌∙◌, ap, subst, map, IfOk}
-use Rattle.lr_sim.specs.Ascending.{ascending}
+use Rattle.lr_base.specs.Ascending.{ascending}
 use Rattle.lr_sim.proofs.SortedCalls.{sorted_calls}
 use Rattle.lr_sim.proofs.replica.Replica.executed_calls.Goals as goal
 

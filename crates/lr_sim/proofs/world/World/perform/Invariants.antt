@@ -1,7 +1,7 @@
 use Rattle.std.proofs.Common.{◌≡◌, ◌++◌, length}
 use Rattle.std.specs.VecDeque.{deque_len}
 use Rattle.lr_base.specs.declared.names.Actor.TheVariants.{Replica}
-use Rattle.lr_sim.specs.Runs.{act_lines, act_posts}
+use Rattle.lr_graph.specs.Runs.{act_lines, act_posts}
 use Rattle.lr_sim.specs.Shapes.{AllFitting}
 use Rattle.lr_sim.specs.Worlds.{run_of, setup_of}
 use Rattle.lr_sim.proofs.world.World.perform.Given as goal

@@ -3,7 +3,7 @@ use Rattle.std.proofs.lemmas.Option.{slice_get_read}
 use Rattle.lr_base.specs.declared.names.Config.{Config}
 use Rattle.lr_sim.proofs.Everywhere.{each-read, each-set}
 use Rattle.lr_sim.proofs.RunLemmas.{map-ok, replica_given-at}
-use Rattle.lr_sim.specs.Replicas.{IsReplica}
+use Rattle.lr_base.specs.Replicas.{IsReplica}
 use Rattle.lr_sim.specs.Shapes.{AllFitting, IsSendable, IsShaped}
 use Rattle.lr_sim.proofs.world.World.take.Goals as goal
 

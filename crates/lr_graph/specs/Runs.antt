@@ -16,12 +16,12 @@ use Rattle.lr_base.specs.declared.names.Actor.{Actor}
 use Rattle.lr_base.specs.declared.names.Actor.TheVariants.{Client, Replica}
 use Rattle.lr_base.specs.declared.names.Cid.{Cid}
 use Rattle.lr_base.specs.declared.names.Config.{Config}
-use Rattle.lr_sim.specs.Fronts.{FrontState, called, clock_read, is_open, message_of, new_front, reply_taken}
-use Rattle.lr_sim.specs.Replicas.{ReplicaState, first_replica, state_line_of}
-use Rattle.lr_sim.specs.Steps.{taken}
-use Rattle.lr_sim.specs.declared.act.Act.{Act}
-use Rattle.lr_sim.specs.declared.act.Act.TheVariants.{Say, Send}
-use Rattle.lr_sim.specs.declared.posted.Posted.{Posted}
+use Rattle.lr_base.specs.Fronts.{FrontState, called, clock_read, is_open, message_of, new_front, reply_taken}
+use Rattle.lr_base.specs.Replicas.{ReplicaState, first_replica, state_line_of}
+use Rattle.lr_base.specs.Steps.{taken}
+use Rattle.lr_base.specs.declared.acts.Act.{Act}
+use Rattle.lr_base.specs.declared.acts.Act.TheVariants.{Say, Send}
+use Rattle.lr_base.specs.declared.acts.Posted.{Posted}
 
 -- the replicas and the front ends of a run, and every message that was sent
 pub record RunState (Value Op : Type 0) : Type 0 where

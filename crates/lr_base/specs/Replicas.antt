@@ -6,7 +6,7 @@ use Rattle.lr_base.specs.Meaning.{Meaning}
 use Rattle.lr_base.specs.Rules.{CausalState, first_state}
 use Rattle.lr_base.specs.declared.events.StateLine.{StateLine}
 use Rattle.lr_base.specs.declared.names.Config.{Config}
-use Rattle.lr_sim.specs.Ascending.{ascending}
+use Rattle.lr_base.specs.Ascending.{ascending}
 
 -- what the run is set up with, which replica it is, and its state
 pub record ReplicaState (Value Op : Type 0) : Type 0 where

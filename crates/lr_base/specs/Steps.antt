@@ -1,0 +1,106 @@
+-- What a replica does with a message, as a function of its state.
+use Rattle.std.specs.Prelude.{ℕ, ◌+◌, ◌^◌, Bool, true, false, not, nat_lt, if◌then◌else◌, List, [], ◌∷◌, ◌++◌, filter, length}
+use Rattle.lr_base.specs.Meaning.{Meaning}
+use Rattle.lr_base.specs.Rules.{CausalState, accepted, applied, fresh_of, held_more, pruned, stamp_of, update_of_call}
+use Rattle.lr_base.specs.Stamps.{part, stamp_le}
+use Rattle.lr_base.specs.declared.events.Outcome.TheVariants.{Accept, Hold, Refuse}
+use Rattle.lr_base.specs.declared.events.Refusal.{Refusal}
+use Rattle.lr_base.specs.declared.events.Refusal.TheVariants.{Late as IsLate, Again as WasTaken, Settled as IsSettled, FullLog, FullHeld, Worn}
+use Rattle.lr_base.specs.declared.messages.Call.{Call}
+use Rattle.lr_base.specs.declared.messages.Fresh.{Fresh}
+use Rattle.lr_base.specs.declared.messages.Fresh.TheVariants.{New, Late, Again, Settled}
+use Rattle.lr_base.specs.declared.messages.Message.{Message}
+use Rattle.lr_base.specs.declared.messages.Message.TheVariants.{Update, Query, Done, Answer}
+use Rattle.lr_base.specs.declared.names.Actor.TheVariants.{Client}
+use Rattle.lr_base.specs.declared.names.Cid.{Cid}
+use Rattle.lr_base.specs.declared.names.Config.{Config}
+use Rattle.lr_base.specs.declared.names.Spot.{Spot}
+use Rattle.lr_base.specs.declared.acts.Act.{Act}
+use Rattle.lr_base.specs.declared.acts.Act.TheVariants.{Say, Send}
+
+-- a replica's state after a step, and what it does in it
+pub record Ending (Value Op : Type 0) : Type 0 where
+  pub state : CausalState Value Op
+  pub acts : List (Act Op)
+
+-- the reply to an update, which goes to the client of its call
+abbrev pub done_act : {Op : Type 0} → Cid → Spot → List ℕ → Act Op
+done_act cid spot stamp = Send (Client cid.client) (Done cid spot stamp)
+
+-- the reply to a query: what the service answers, and what it was read after
+abbrev pub answer_act : {Value Op : Type 0} → Meaning Value Op → CausalState Value Op → Call Op → Act Op
+answer_act m state call = Send (Client call.cid.client) (Answer call.cid (m.read state.value call.op) state.val_ts)
+
+-- each held query whose label is now applied is answered, in the order of arrival
+abbrev pub held_acts : {Value Op : Type 0} → Meaning Value Op → CausalState Value Op → List (Call Op) → List (Act Op)
+held_acts m state [] = []
+held_acts m state (call ∷ calls) =
+    if stamp_le call.prev state.val_ts
+    then answer_act m state call ∷ held_acts m state calls
+    else held_acts m state calls
+
+-- answered queries are held no more
+abbrev pub still_held : {Value Op : Type 0} → CausalState Value Op → CausalState Value Op
+still_held state = record state { held = filter (λ call. not (stamp_le call.prev state.val_ts)) state.held }
+
+-- the end of each step: what is ready is applied, then held queries are answered, then what is known everywhere leaves
+abbrev pub ended : {Value Op : Type 0} → Meaning Value Op → ℕ → CausalState Value Op → List (Act Op) → Ending Value Op
+ended m replicas state own =
+    let now = applied m state in
+    record { state = pruned replicas (still_held now); acts = own ++ held_acts m now now.held }
+
+-- nothing is done of its own, and this is why
+abbrev pub refusing : {Value Op : Type 0} → CausalState Value Op → Refusal → Ending Value Op
+refusing state why = record { state = state; acts = Say (Refuse why) ∷ [] }
+
+-- whether one more item may be logged
+abbrev pub has_room : {Value Op : Type 0} → CausalState Value Op → Bool
+has_room state = nat_lt (length state.updates + length state.acks) 512
+
+-- whether this replica may still number an update
+abbrev pub has_number : {Value Op : Type 0} → ℕ → CausalState Value Op → Bool
+has_number me state = nat_lt (part state.rep_ts me) (2 ^ 62)
+
+-- a new call is refused without room or a number, and else accepted
+abbrev pub call_taken : {Value Op : Type 0} → ℕ → CausalState Value Op → Call Op → Bool → Bool → Ending Value Op
+call_taken me state call false number = refusing state FullLog
+call_taken me state call true false = refusing state Worn
+call_taken me state call true true =
+    let u = update_of_call me state call in
+    record {
+      state = accepted me state call;
+      acts = Say (Accept u.spot call.cid) ∷ done_act call.cid u.spot (stamp_of u) ∷ [];
+    }
+
+-- an update, after its first checks: one that was taken before is replied to again
+abbrev pub update_taken : {Value Op : Type 0} → ℕ → CausalState Value Op → Call Op → Fresh → Ending Value Op
+update_taken me state call New = call_taken me state call (has_room state) (has_number me state)
+update_taken me state call (Late time clock) = refusing state (IsLate time clock)
+update_taken me state call (Again spot stamp) = record {
+  state = state;
+  acts = Say (Refuse (WasTaken spot)) ∷ done_act call.cid spot stamp ∷ [];
+}
+update_taken me state call Settled = refusing state IsSettled
+
+-- a query that can't be answered yet is held while there is room
+abbrev pub query_held : {Value Op : Type 0} → CausalState Value Op → Call Op → Bool → Ending Value Op
+query_held state call false = refusing state FullHeld
+query_held state call true = record { state = held_more state call; acts = Say (Hold call.cid) ∷ [] }
+
+-- a query is answered where all that its label names is applied
+abbrev pub query_taken : {Value Op : Type 0} → Meaning Value Op → CausalState Value Op → Call Op → Bool → Ending Value Op
+query_taken m state call true = record { state = state; acts = answer_act m state call ∷ [] }
+query_taken m state call false = query_held state call (nat_lt (length state.held) 1024)
+
+-- what a message itself does at a replica: a reply has no rule there
+abbrev pub own_taken : {Value Op : Type 0} → Meaning Value Op → Config → ℕ → CausalState Value Op → Message Op → Ending Value Op
+own_taken m config me state (Update call time) = update_taken me state call (fresh_of config.delta state call.cid time)
+own_taken m config me state (Query call) = query_taken m state call (stamp_le call.prev state.val_ts)
+own_taken m config me state (Done cid spot stamp) = record { state = state; acts = [] }
+own_taken m config me state (Answer cid text stamp) = record { state = state; acts = [] }
+
+-- what a replica does with a message, to the end of the step
+abbrev pub taken : {Value Op : Type 0} → Meaning Value Op → Config → ℕ → CausalState Value Op → Message Op → Ending Value Op
+taken m config me state message =
+    let own = own_taken m config me state message in
+    ended m config.replicas own.state own.acts

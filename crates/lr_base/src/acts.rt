@@ -1,0 +1,21 @@
+//! What an actor does in a step, and messages with their ways.
+use crate::events::Outcome;
+use crate::messages::Message;
+use crate::names::Actor;
+
+/// One thing that a step does.
+#[derive(Drop)]
+pub enum Act<O: Drop> {
+    /// A line is printed.
+    Say(Outcome),
+    /// A message is sent. It gets its number when it is posted.
+    Send { to: Actor, message: Message<O> },
+}
+
+/// A message with its sender and its receiver. Its number is its place among all, from 1.
+#[derive(Drop)]
+pub struct Posted<O: Drop> {
+    pub from: Actor,
+    pub to: Actor,
+    pub message: Message<O>,
+}

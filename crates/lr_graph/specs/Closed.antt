@@ -1,0 +1,53 @@
+-- What holds of acceptances and of sets of them: causes exist, come before, and come along.
+use Rattle.std.specs.Prelude.{◌≡◌, ◌<◌, ◌⊎◌, true, false, not, ◌&&◌, List, [], ◌∷◌}
+use Rattle.lr_base.specs.declared.names.Spot.{Spot}
+use Rattle.lr_graph.specs.Graph.{Acceptance}
+use Rattle.lr_graph.specs.Sets.{SpotSet, same_spot}
+
+-- x is in the list
+abbrev pub IsAmong : {A : Type 0} → A → List A → Type 0
+IsAmong x [] = ⊥
+IsAmong x (first ∷ rest) = (x ≡ first) ⊎ IsAmong x rest
+
+-- P holds of each element of the list
+abbrev pub Each : {A : Type 0} → (A → Type 0) → List A → Type 0
+Each P [] = Unit {0}
+Each P (first ∷ rest) = P first × Each P rest
+
+-- each acceptance that is in x is in y
+abbrev pub IsWithin : {Op : Type 0} → List (Acceptance Op) → SpotSet → SpotSet → Type 0
+IsWithin accepted x y = Each (λ a. x a.spot ≡ true → y a.spot ≡ true) accepted
+
+-- with each acceptance the set has all that is below it
+abbrev pub IsClosed : {Op : Type 0} → List (Acceptance Op) → SpotSet → Type 0
+IsClosed accepted x = Each (λ a. x a.spot ≡ true → IsWithin accepted a.below x) accepted
+
+-- an acceptance of this spot is in the list
+abbrev pub IsMade : {Op : Type 0} → List (Acceptance Op) → Spot → Type 0
+IsMade {Op} accepted spot = (a : Acceptance Op) × IsAmong a accepted × (a.spot ≡ spot)
+
+-- what is below an acceptance, without itself
+abbrev pub causes : {Op : Type 0} → Acceptance Op → SpotSet
+causes a spot = a.below spot && not (same_spot spot a.spot)
+
+-- no two acceptances have one spot
+abbrev pub HasApartSpots : {Op : Type 0} → List (Acceptance Op) → Type 0
+HasApartSpots [] = Unit {0}
+HasApartSpots (a ∷ older) = Each (λ b. same_spot b.spot a.spot ≡ false) older × HasApartSpots older
+
+-- each acceptance is below itself, and its causes were made before it
+abbrev pub HasOlderCauses : {Op : Type 0} → List (Acceptance Op) → Type 0
+HasOlderCauses [] = Unit {0}
+HasOlderCauses (a ∷ older) = (a.below a.spot ≡ true) × ((spot : Spot) → causes a spot ≡ true → IsMade older spot) × HasOlderCauses older
+
+-- what holds of the acceptances of every history
+pub record IsSound {Op : Type 0} (accepted : List (Acceptance Op)) : Type 0 where
+  pub apart : HasApartSpots accepted
+  pub closed : Each (λ a. IsClosed accepted a.below) accepted
+  pub older : HasOlderCauses accepted
+  pub numbered : Each (λ a. 0 < a.spot.number) accepted
+
+-- a set of acceptances that were made, with all that is below them
+pub record IsSetOf {Op : Type 0} (accepted : List (Acceptance Op)) (x : SpotSet) : Type 0 where
+  pub exist : (spot : Spot) → x spot ≡ true → IsMade accepted spot
+  pub closed : IsClosed accepted x
