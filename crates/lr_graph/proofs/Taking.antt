@@ -1,5 +1,5 @@
 -- Taking the first update whose causes are applied, and what is known in a longer table.
-use Rattle.std.proofs.Common.{◌≡◌, ℕ, suc, Bool, true, false, cond, ◌⊎◌, inl, inr, List, [], ◌∷◌, ◌++◌, length, filter, Option, Some, None, refl, sym, ap, ◌∙◌, subst, true≢false}
+use Rattle.std.proofs.Common.{◌≡◌, ℕ, suc, Bool, true, false, cond, ◌||◌, ◌⊎◌, inl, inr, List, [], ◌∷◌, ◌++◌, length, filter, Option, Some, None, is_some, refl, sym, ap, ◌∙◌, subst, true≢false}
 use Rattle.std.specs.Option.{option_map}
 use Rattle.lr_base.specs.Rules.{is_before, known_of, same_cid, take_ready}
 use Rattle.lr_base.specs.Stamps.{stamp_le}
@@ -9,7 +9,7 @@ use Rattle.lr_base.specs.declared.names.Cid.{Cid}
 use Rattle.lr_graph.specs.Closed.{Each, IsAmong}
 use Rattle.lr_graph.specs.Sets.{same_spot}
 use Rattle.lr_graph.proofs.Members.{each-at, each-from, each-map}
-use Rattle.lr_graph.proofs.Tests.{is_before-apart, same_spot-sym}
+use Rattle.lr_graph.proofs.Tests.{or-right, is_before-apart, same_spot-sym, same_cid-is}
 use Rattle.lr_graph.proofs.Ties.{IsAscending}
 
 -- ---- updates in order
@@ -152,3 +152,30 @@ known_of-behind (c ∷ calls) more cid e = at_first (same_cid cid c.0) e (known_
         some_none : Some c.1 ≡ None → ⊥
         some_none e = cc
     at_first false e rest = rest e
+
+-- a call is known in a table with one more entry where it was known or is the entry's
+pub known_of-more : (calls : List (Cid × Known)) (entered : Cid) (k : Known) (cid : Cid) → is_some (known_of (calls ++ (entered, k) ∷ []) cid) ≡ (same_cid cid entered || is_some (known_of calls cid))
+known_of-more calls entered k cid = by_known (known_of calls cid) refl
+  where
+    entry : (t : Bool) → is_some (cond t (Some k) None) ≡ (t || false)
+    entry true = refl
+    entry false = refl
+
+    by_known : (o : Option Known) → known_of calls cid ≡ o → is_some (known_of (calls ++ (entered, k) ∷ []) cid) ≡ (same_cid cid entered || is_some o)
+    by_known (Some j) e = ap is_some (known_of-before calls _ cid j e) ∙ sym (or-right (same_cid cid entered) true refl)
+    by_known None e = ap is_some (known_of-behind calls _ cid e) ∙ entry (same_cid cid entered)
+
+-- what is known of a call there was known of it before, or is the new entry
+pub known_of-either : (calls : List (Cid × Known)) (entered : Cid) (k : Known) (cid : Cid) (j : Known) → known_of (calls ++ (entered, k) ∷ []) cid ≡ Some j → (known_of calls cid ≡ Some j) ⊎ ((cid ≡ entered) × (k ≡ j))
+known_of-either calls entered k cid j h = by_known (known_of calls cid) refl
+  where
+    entry : (t : Bool) → same_cid cid entered ≡ t → cond t (Some k) None ≡ Some j → (cid ≡ entered) × (k ≡ j)
+    entry true e q = let is : k ≡ j = cc in (same_cid-is cid entered e, is)
+    entry false e q = absurd (none_some q)
+      where
+        none_some : ◌≡◌ {A = Option Known} None (Some j) → ⊥
+        none_some q = cc
+
+    by_known : (o : Option Known) → known_of calls cid ≡ o → (o ≡ Some j) ⊎ ((cid ≡ entered) × (k ≡ j))
+    by_known (Some i) e = inl (sym (known_of-before calls _ cid i e) ∙ h)
+    by_known None e = inr (entry (same_cid cid entered) refl (sym (known_of-behind calls _ cid e) ∙ h))
