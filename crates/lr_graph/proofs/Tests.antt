@@ -1,6 +1,7 @@
 -- Tests, and what follows from them.
-use Rattle.std.proofs.Common.{◌≡◌, ◌≢◌, ℕ, ◌<◌, ◌≤◌, nat_le, leb-true, leb-false, Bool, true, false, not, ◌&&◌, ◌||◌, ◌⊎◌, inl, inr, ◌==◌, refl, sym, ap, ◌∙◌, true≢false, eq-eqb, eqb-true}
-use Rattle.lr_base.specs.Rules.{same_cid}
+use Rattle.std.proofs.Common.{◌≡◌, ◌≢◌, ℕ, ◌<◌, ◌≤◌, nat_le, nat_lt, leb-true, leb-false, Bool, true, false, not, ◌&&◌, ◌||◌, ◌⊎◌, inl, inr, ◌==◌, refl, sym, ap, ◌∙◌, true≢false, arith, eq-eqb, eqb-true}
+use Rattle.std.proofs.lemmas.Bool.{ltb-true}
+use Rattle.lr_base.specs.Rules.{same_cid, is_before}
 use Rattle.lr_base.specs.declared.names.Cid.{Cid}
 use Rattle.lr_base.specs.declared.names.Spot.{Spot}
 use Rattle.lr_graph.specs.Sets.{same_spot}
@@ -121,3 +122,29 @@ same_cid-sym a b = same-test _ _ (turned a b) (turned b a)
   where
     turned : (a b : Cid) → same_cid a b ≡ true → same_cid b a ≡ true
     turned a b e = ap (same_cid b) (same_cid-is a b e) ∙ same_cid-self b
+
+-- ---- the order of spots
+
+-- a spot before another has the lesser place, or the same place and the lesser number
+pub is_before-holds : (a b : Spot) → is_before a b ≡ true → (a.place < b.place) ⊎ ((a.place ≡ b.place) × (a.number < b.number))
+is_before-holds a b e = by_part (or-cases (nat_lt a.place b.place) _ e)
+  where
+    by_part : (nat_lt a.place b.place ≡ true) ⊎ (((a.place == b.place) && nat_lt a.number b.number) ≡ true) → (a.place < b.place) ⊎ ((a.place ≡ b.place) × (a.number < b.number))
+    by_part (inl less) = inl (ltb-true a.place b.place less)
+    by_part (inr same) =
+        inr (eqb-true a.place b.place (and-left (a.place == b.place) _ same), ltb-true a.number b.number (and-right (a.place == b.place) _ same))
+
+-- of two spots at most one is before the other
+pub is_before-once : (a b : Spot) → is_before a b ≡ true → is_before b a ≡ false
+is_before-once a b e = never _ (λ back. refuted (is_before-holds a b e) (is_before-holds b a back))
+  where
+    refuted : (a.place < b.place) ⊎ ((a.place ≡ b.place) × (a.number < b.number)) → (b.place < a.place) ⊎ ((b.place ≡ a.place) × (b.number < a.number)) → ⊥
+    refuted (inl p) (inl q) = omega arith
+    refuted (inl p) (inr q) = omega arith
+    refuted (inr p) (inl q) = omega arith
+    refuted (inr p) (inr q) = omega arith
+
+pub is_before-apart : (a b : Spot) → is_before a b ≡ true → same_spot b a ≡ false
+is_before-apart a b e = spots-apart b a (λ same.
+    let itself : is_before a a ≡ true = ap (is_before a) (sym same) ∙ e in
+    true≢false (sym itself ∙ is_before-once a a itself))
