@@ -21,7 +21,8 @@ IsFirst a b = (b ≡ a) ⊎ (is_before a b ≡ true)
 
 module _ {Op : Type 0} where
   -- the least spot is that of an acceptance of the call in the set
-  pub least_spot-is : (l : List (Acceptance Op)) (x : SpotSet) (cid : Cid) (s : Spot) → least_spot l x cid ≡ Some s → (a : Acceptance Op) × IsAmong a l × (x a.spot ≡ true) × (a.cid ≡ cid) × (a.spot ≡ s)
+  pub least_spot-is : (l : List (Acceptance Op)) (x : SpotSet) (cid : Cid) (s : Spot) → least_spot l x cid ≡ Some s
+      → (a : Acceptance Op) × IsAmong a l × (x a.spot ≡ true) × (a.cid ≡ cid) × (a.spot ≡ s)
   least_spot-is [] x cid s e = absurd (none-some _ e)
   least_spot-is (a ∷ l) x cid s e = at_newest (x a.spot && same_cid cid a.cid) refl (least_spot l x cid) refl e (least_spot-is l x cid s)
     where
@@ -47,7 +48,8 @@ module _ {Op : Type 0} where
           absurd (true≢false (sym (holds-has_call l x cid a.0 a.1 a.2 a.3) ∙ lacks))
 
   -- what comes before all others of the call is the least spot
-  pub least_spot-first : (l : List (Acceptance Op)) (x : SpotSet) (a : Acceptance Op) → IsAmong a l → x a.spot ≡ true → ((b : Acceptance Op) → IsAmong b l → x b.spot ≡ true → b.cid ≡ a.cid → IsFirst a.spot b.spot) → least_spot l x a.cid ≡ Some a.spot
+  pub least_spot-first : (l : List (Acceptance Op)) (x : SpotSet) (a : Acceptance Op) → IsAmong a l → x a.spot ≡ true
+      → ((b : Acceptance Op) → IsAmong b l → x b.spot ≡ true → b.cid ≡ a.cid → IsFirst a.spot b.spot) → least_spot l x a.cid ≡ Some a.spot
   least_spot-first [] x a member here first = absurd member
   least_spot-first (b ∷ l) x a (inl e) here first =
       let test : (x b.spot && same_cid a.cid b.cid) ≡ true = ap (λ (c : Acceptance Op). x c.spot && same_cid a.cid c.cid) (sym e) ∙ and-intro (x a.spot) _ here (same_cid-self a.cid) in
@@ -91,7 +93,8 @@ kept_spot-before : (kept more : List Kept) (cid : Cid) (s : Spot) → kept_spot 
 kept_spot-before [] more cid s e = absurd (none-some _ e)
 kept_spot-before (k ∷ kept) more cid s e = at_first (same_cid cid k.cid) e (kept_spot-before kept more cid s)
   where
-    at_first : (t : Bool) → cond t (Some k.spot) (kept_spot kept cid) ≡ Some s → (kept_spot kept cid ≡ Some s → kept_spot (kept ++ more) cid ≡ Some s) → cond t (Some k.spot) (kept_spot (kept ++ more) cid) ≡ Some s
+    at_first : (t : Bool) → cond t (Some k.spot) (kept_spot kept cid) ≡ Some s → (kept_spot kept cid ≡ Some s → kept_spot (kept ++ more) cid ≡ Some s)
+        → cond t (Some k.spot) (kept_spot (kept ++ more) cid) ≡ Some s
     at_first true e rest = e
     at_first false e rest = rest e
 
@@ -100,7 +103,8 @@ kept_spot-behind : (kept more : List Kept) (cid : Cid) → kept_spot kept cid �
 kept_spot-behind [] more cid e = refl
 kept_spot-behind (k ∷ kept) more cid e = at_first (same_cid cid k.cid) e (kept_spot-behind kept more cid)
   where
-    at_first : (t : Bool) → cond t (Some k.spot) (kept_spot kept cid) ≡ None → (kept_spot kept cid ≡ None → kept_spot (kept ++ more) cid ≡ kept_spot more cid) → cond t (Some k.spot) (kept_spot (kept ++ more) cid) ≡ kept_spot more cid
+    at_first : (t : Bool) → cond t (Some k.spot) (kept_spot kept cid) ≡ None → (kept_spot kept cid ≡ None → kept_spot (kept ++ more) cid ≡ kept_spot more cid)
+        → cond t (Some k.spot) (kept_spot (kept ++ more) cid) ≡ kept_spot more cid
     at_first true e rest = absurd (none-some _ (sym e))
     at_first false e rest = rest e
 

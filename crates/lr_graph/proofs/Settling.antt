@@ -25,7 +25,8 @@ use Rattle.lr_graph.proofs.Values.{Commute, has_call-same, has_call-wider, value
 -- ---- the end
 
 -- where no update that waits has its causes applied, each ready acceptance is applied
-all-applied : {Op : Type 0} (l : List (Acceptance Op)) (r done : SpotSet) → IsSound l → (todo : List (LogUpdate Op)) (val_ts : List ℕ) (applied named : SpotSet) → IsWaiting l r done todo val_ts applied named
+all-applied : {Op : Type 0} (l : List (Acceptance Op)) (r done : SpotSet) → IsSound l → (todo : List (LogUpdate Op)) (val_ts : List ℕ) (applied named : SpotSet)
+    → IsWaiting l r done todo val_ts applied named
     → Each (λ u. stamp_le u.prev val_ts ≡ false) todo → (s : Spot) → ready l r s ≡ true → applied s ≡ true
 all-applied {Op} l r done sound todo val_ts applied named w none s h =
     let a = ready-holds l r s h in
@@ -65,7 +66,8 @@ pub record IsSettled {Value Op : Type 0} (m : Meaning Value Op) (l : List (Accep
   pub table : IsTableOf l (ready l r) (keep_new l (ready l r) l kept) p.calls
 
 -- the table at the end is that of the ready set
-table-end : {Op : Type 0} (l : List (Acceptance Op)) (r done applied : SpotSet) (kept : List Kept) (calls : List (Cid × Known)) → ((cid : Cid) → has_call l done cid ≡ false → kept_spot kept cid ≡ None)
+table-end : {Op : Type 0} (l : List (Acceptance Op)) (r done applied : SpotSet) (kept : List Kept) (calls : List (Cid × Known))
+    → ((cid : Cid) → has_call l done cid ≡ false → kept_spot kept cid ≡ None)
     → IsTableSoFar l r applied kept calls → ((s : Spot) → done s ≡ true → applied s ≡ true) → ((s : Spot) → applied s ≡ ready l r s) → IsTableOf l (ready l r) (keep_new l (ready l r) l kept) calls
 table-end l r done applied kept calls unkept t still same = record {
   spots = λ cid. by_known cid (known_of calls cid) refl ∙ sym (keep_new-is l (ready l r) kept cid);
@@ -82,7 +84,9 @@ table-end l r done applied kept calls unkept t still same = record {
         let lacked : has_call l done cid ≡ false = never _ (λ has. true≢false (sym (has_call-wider l done applied cid (λ b in_l here. still b.spot here) has) ∙ sym (t.known cid) ∙ ap is_some e)) in
         sym (ap (λ k. option_or k (least_spot l (ready l r) cid)) (unkept cid lacked) ∙ least_spot-lacks l (ready l r) cid (sym (known cid) ∙ ap is_some e))
 
-settling-end : {Value Op : Type 0} (m : Meaning Value Op) (l : List (Acceptance Op)) (r done : SpotSet) (kept : List Kept) → IsSound l → ((cid : Cid) → has_call l done cid ≡ false → kept_spot kept cid ≡ None)
+-- where nothing that waits can be applied, all is settled
+settling-end : {Value Op : Type 0} (m : Meaning Value Op) (l : List (Acceptance Op)) (r done : SpotSet) (kept : List Kept) → IsSound l
+    → ((cid : Cid) → has_call l done cid ≡ false → kept_spot kept cid ≡ None)
     → (todo : List (LogUpdate Op)) (p : Progress Value) (applied named : SpotSet) → Settling m l r done kept todo p applied named → Each (λ u. stamp_le u.prev p.val_ts ≡ false) todo → IsSettled m l r kept p
 settling-end m l r done kept sound unkept todo p applied named s none = record {
   names = names-same p.val_ts named (ready l r) (λ k. same-test _ _ (s.waiting.within k) (λ h. s.waiting.held k (all k h))) s.waiting.names;
@@ -125,7 +129,8 @@ settling-all {Value} {Op} m l r done kept rep_ts sound one_call commute counted 
 -- ---- the start, and the whole
 
 -- where more was received, applying begins with what waits
-settling-start : {Value Op : Type 0} (m : Meaning Value Op) (l : List (Acceptance Op)) (r g done : SpotSet) (kept : List Kept) (state : CausalState Value Op) → IsPending m l r g done kept state
+settling-start : {Value Op : Type 0} (m : Meaning Value Op) (l : List (Acceptance Op)) (r g done : SpotSet) (kept : List Kept) (state : CausalState Value Op)
+    → IsPending m l r g done kept state
     → Settling m l r done kept (waiting state.val_ts state.updates) (progress_of state) done done
 settling-start {Value} {Op} m l r g done kept state pending = record {
   waiting = record {
@@ -157,7 +162,8 @@ all-commute m kind_of lawful l free = each-from _ l (λ a in_a. each-from _ l (�
     lawful.commute v a.op b.op (each-at _ a l free.updates in_a) (each-at _ b l free.updates in_b) (each-at _ b l (each-at _ a l free.unordered in_a) in_b)))
 
 -- after applying, the value, its stamp and the table are those of all that is ready
-pub settled : {Value Op : Type 0} (m : Meaning Value Op) (kind_of : Op → Kind) → Lawful m kind_of → (l : List (Acceptance Op)) (r g done : SpotSet) (kept : List Kept) (state : CausalState Value Op)
+pub settled : {Value Op : Type 0} (m : Meaning Value Op) (kind_of : Op → Kind) → Lawful m kind_of
+    → (l : List (Acceptance Op)) (r g done : SpotSet) (kept : List Kept) (state : CausalState Value Op)
     → IsSound l → HasOneCall l → IsFree m l → IsPending m l r g done kept state
     → HasApplied m l (ready l r) (keep_new l (ready l r) l kept) (after_applying m state)
 settled m kind_of lawful l r g done kept state sound one_call free pending = record {

@@ -68,7 +68,8 @@ module _ {Op : Type 0} (val_ts : List ℕ) where
   }
 
   -- one behind the first of the list, where that one's causes aren't applied
-  taken-behind : (v : LogUpdate Op) (todo : List (LogUpdate Op)) (u : LogUpdate Op) (rest : List (LogUpdate Op)) → IsAscending (v ∷ todo) → stamp_le v.prev val_ts ≡ false → IsTaken val_ts todo u rest → IsTaken val_ts (v ∷ todo) u (v ∷ rest)
+  taken-behind : (v : LogUpdate Op) (todo : List (LogUpdate Op)) (u : LogUpdate Op) (rest : List (LogUpdate Op)) → IsAscending (v ∷ todo)
+      → stamp_le v.prev val_ts ≡ false → IsTaken val_ts todo u rest → IsTaken val_ts (v ∷ todo) u (v ∷ rest)
   taken-behind v todo u rest ascending not_yet t = record {
     among = inr t.among;
     applicable = t.applicable;
@@ -126,7 +127,8 @@ pub known_of-before : (calls more : List (Cid × Known)) (cid : Cid) (k : Known)
 known_of-before [] more cid k e = absurd (none-some _ e)
 known_of-before (c ∷ calls) more cid k e = at_first (same_cid cid c.0) e (known_of-before calls more cid k)
   where
-    at_first : (t : Bool) → cond t (Some c.1) (known_of calls cid) ≡ Some k → (known_of calls cid ≡ Some k → known_of (calls ++ more) cid ≡ Some k) → cond t (Some c.1) (known_of (calls ++ more) cid) ≡ Some k
+    at_first : (t : Bool) → cond t (Some c.1) (known_of calls cid) ≡ Some k → (known_of calls cid ≡ Some k → known_of (calls ++ more) cid ≡ Some k)
+        → cond t (Some c.1) (known_of (calls ++ more) cid) ≡ Some k
     at_first true e rest = e
     at_first false e rest = rest e
 
@@ -135,12 +137,14 @@ pub known_of-behind : (calls more : List (Cid × Known)) (cid : Cid) → known_o
 known_of-behind [] more cid e = refl
 known_of-behind (c ∷ calls) more cid e = at_first (same_cid cid c.0) e (known_of-behind calls more cid)
   where
-    at_first : (t : Bool) → cond t (Some c.1) (known_of calls cid) ≡ None → (known_of calls cid ≡ None → known_of (calls ++ more) cid ≡ known_of more cid) → cond t (Some c.1) (known_of (calls ++ more) cid) ≡ known_of more cid
+    at_first : (t : Bool) → cond t (Some c.1) (known_of calls cid) ≡ None → (known_of calls cid ≡ None → known_of (calls ++ more) cid ≡ known_of more cid)
+        → cond t (Some c.1) (known_of (calls ++ more) cid) ≡ known_of more cid
     at_first true e rest = absurd (none-some _ (sym e))
     at_first false e rest = rest e
 
 -- a call is known in a table with one more entry where it was known or is the entry's
-pub known_of-more : (calls : List (Cid × Known)) (entered : Cid) (k : Known) (cid : Cid) → is_some (known_of (calls ++ (entered, k) ∷ []) cid) ≡ (same_cid cid entered || is_some (known_of calls cid))
+pub known_of-more : (calls : List (Cid × Known)) (entered : Cid) (k : Known) (cid : Cid)
+    → is_some (known_of (calls ++ (entered, k) ∷ []) cid) ≡ (same_cid cid entered || is_some (known_of calls cid))
 known_of-more calls entered k cid = by_known (known_of calls cid) refl
   where
     entry : (t : Bool) → is_some (cond t (Some k) None) ≡ (t || false)
@@ -152,7 +156,8 @@ known_of-more calls entered k cid = by_known (known_of calls cid) refl
     by_known None e = ap is_some (known_of-behind calls _ cid e) ∙ entry (same_cid cid entered)
 
 -- what is known of a call there was known of it before, or is the new entry
-pub known_of-either : (calls : List (Cid × Known)) (entered : Cid) (k : Known) (cid : Cid) (j : Known) → known_of (calls ++ (entered, k) ∷ []) cid ≡ Some j → (known_of calls cid ≡ Some j) ⊎ ((cid ≡ entered) × (k ≡ j))
+pub known_of-either : (calls : List (Cid × Known)) (entered : Cid) (k : Known) (cid : Cid) (j : Known) → known_of (calls ++ (entered, k) ∷ []) cid ≡ Some j
+    → (known_of calls cid ≡ Some j) ⊎ ((cid ≡ entered) × (k ≡ j))
 known_of-either calls entered k cid j h = by_known (known_of calls cid) refl
   where
     entry : (t : Bool) → same_cid cid entered ≡ t → cond t (Some k) None ≡ Some j → (cid ≡ entered) × (k ≡ j)
