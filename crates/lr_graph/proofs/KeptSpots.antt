@@ -1,6 +1,7 @@
 -- The least spot of a call in a set, and the spots that are kept.
 use Rattle.std.proofs.Common.{◌≡◌, Bool, true, false, cond, ◌&&◌, ◌||◌, ◌⊎◌, inl, inr, List, [], ◌∷◌, ◌++◌, Option, Some, None, is_some, refl, sym, ap, ◌∙◌, true≢false}
 use Rattle.std.specs.List.{list_any}
+use Rattle.std.proofs.lemmas.Option.{none-some}
 use Rattle.std.specs.Option.{option_or}
 use Rattle.lr_base.specs.Rules.{same_cid, is_before}
 use Rattle.lr_base.specs.declared.names.Cid.{Cid}
@@ -20,11 +21,9 @@ IsFirst a b = (b ≡ a) ⊎ (is_before a b ≡ true)
 
 module _ {Op : Type 0} where
   -- the least spot is that of an acceptance of the call in the set
-  pub least_spot-is : (l : List (Acceptance Op)) (x : SpotSet) (cid : Cid) (s : Spot) → least_spot l x cid ≡ Some s → (a : Acceptance Op) × IsAmong a l × (x a.spot ≡ true) × (a.cid ≡ cid) × (a.spot ≡ s)
-  least_spot-is [] x cid s e = absurd (none_some e)
-    where
-      none_some : ◌≡◌ {A = Option Spot} None (Some s) → ⊥
-      none_some e = cc
+  pub least_spot-is : (l : List (Acceptance Op)) (x : SpotSet) (cid : Cid) (s : Spot) → least_spot l x cid ≡ Some s
+      → (a : Acceptance Op) × IsAmong a l × (x a.spot ≡ true) × (a.cid ≡ cid) × (a.spot ≡ s)
+  least_spot-is [] x cid s e = absurd (none-some _ e)
   least_spot-is (a ∷ l) x cid s e = at_newest (x a.spot && same_cid cid a.cid) refl (least_spot l x cid) refl e (least_spot-is l x cid s)
     where
       at_newest : (t : Bool) → (x a.spot && same_cid cid a.cid) ≡ t → (o : Option Spot) → least_spot l x cid ≡ o → cond t (lesser a.spot o) o ≡ Some s
@@ -49,7 +48,8 @@ module _ {Op : Type 0} where
           absurd (true≢false (sym (holds-has_call l x cid a.0 a.1 a.2 a.3) ∙ lacks))
 
   -- what comes before all others of the call is the least spot
-  pub least_spot-first : (l : List (Acceptance Op)) (x : SpotSet) (a : Acceptance Op) → IsAmong a l → x a.spot ≡ true → ((b : Acceptance Op) → IsAmong b l → x b.spot ≡ true → b.cid ≡ a.cid → IsFirst a.spot b.spot) → least_spot l x a.cid ≡ Some a.spot
+  pub least_spot-first : (l : List (Acceptance Op)) (x : SpotSet) (a : Acceptance Op) → IsAmong a l → x a.spot ≡ true
+      → ((b : Acceptance Op) → IsAmong b l → x b.spot ≡ true → b.cid ≡ a.cid → IsFirst a.spot b.spot) → least_spot l x a.cid ≡ Some a.spot
   least_spot-first [] x a member here first = absurd member
   least_spot-first (b ∷ l) x a (inl e) here first =
       let test : (x b.spot && same_cid a.cid b.cid) ≡ true = ap (λ (c : Acceptance Op). x c.spot && same_cid a.cid c.cid) (sym e) ∙ and-intro (x a.spot) _ here (same_cid-self a.cid) in
@@ -90,13 +90,11 @@ module _ {Op : Type 0} where
 
 -- what is kept of a call before is kept on
 kept_spot-before : (kept more : List Kept) (cid : Cid) (s : Spot) → kept_spot kept cid ≡ Some s → kept_spot (kept ++ more) cid ≡ Some s
-kept_spot-before [] more cid s e = absurd (none_some e)
-  where
-    none_some : ◌≡◌ {A = Option Spot} None (Some s) → ⊥
-    none_some e = cc
+kept_spot-before [] more cid s e = absurd (none-some _ e)
 kept_spot-before (k ∷ kept) more cid s e = at_first (same_cid cid k.cid) e (kept_spot-before kept more cid s)
   where
-    at_first : (t : Bool) → cond t (Some k.spot) (kept_spot kept cid) ≡ Some s → (kept_spot kept cid ≡ Some s → kept_spot (kept ++ more) cid ≡ Some s) → cond t (Some k.spot) (kept_spot (kept ++ more) cid) ≡ Some s
+    at_first : (t : Bool) → cond t (Some k.spot) (kept_spot kept cid) ≡ Some s → (kept_spot kept cid ≡ Some s → kept_spot (kept ++ more) cid ≡ Some s)
+        → cond t (Some k.spot) (kept_spot (kept ++ more) cid) ≡ Some s
     at_first true e rest = e
     at_first false e rest = rest e
 
@@ -105,11 +103,9 @@ kept_spot-behind : (kept more : List Kept) (cid : Cid) → kept_spot kept cid �
 kept_spot-behind [] more cid e = refl
 kept_spot-behind (k ∷ kept) more cid e = at_first (same_cid cid k.cid) e (kept_spot-behind kept more cid)
   where
-    at_first : (t : Bool) → cond t (Some k.spot) (kept_spot kept cid) ≡ None → (kept_spot kept cid ≡ None → kept_spot (kept ++ more) cid ≡ kept_spot more cid) → cond t (Some k.spot) (kept_spot (kept ++ more) cid) ≡ kept_spot more cid
-    at_first true e rest = absurd (some_none e)
-      where
-        some_none : Some k.spot ≡ None → ⊥
-        some_none e = cc
+    at_first : (t : Bool) → cond t (Some k.spot) (kept_spot kept cid) ≡ None → (kept_spot kept cid ≡ None → kept_spot (kept ++ more) cid ≡ kept_spot more cid)
+        → cond t (Some k.spot) (kept_spot (kept ++ more) cid) ≡ kept_spot more cid
+    at_first true e rest = absurd (none-some _ (sym e))
     at_first false e rest = rest e
 
 -- what keeping a spot of one call does to what is kept of another
@@ -122,13 +118,13 @@ keep_one-other cid other (Some s) kept false apart = by_kept (kept_spot kept oth
     by_kept (Some k) e = kept_spot-before kept _ other k e
     by_kept None e = kept_spot-behind kept _ other e ∙ ap (λ t. cond t (Some s) None) apart
 
+or_none : (k : Option Spot) → k ≡ option_or k None
+or_none None = refl
+or_none (Some k) = refl
+
 -- keeping a spot of a call: what was kept of it, and else this spot
 keep_one-own : (cid : Cid) (o : Option Spot) (kept : List Kept) → kept_spot (keep_one cid o kept (is_some (kept_spot kept cid))) cid ≡ option_or (kept_spot kept cid) o
 keep_one-own cid None kept = or_none (kept_spot kept cid)
-  where
-    or_none : (k : Option Spot) → k ≡ option_or k None
-    or_none None = refl
-    or_none (Some k) = refl
 keep_one-own cid (Some s) kept = by_kept (kept_spot kept cid) refl
   where
     by_kept : (k : Option Spot) → kept_spot kept cid ≡ k → kept_spot (keep_one cid (Some s) kept (is_some k)) cid ≡ option_or k (Some s)
@@ -143,10 +139,6 @@ module _ {Op : Type 0} (l : List (Acceptance Op)) (x : SpotSet) (kept : List Kep
   -- the same after some of the acceptances
   keep_some : (some : List (Acceptance Op)) (cid : Cid) → kept_spot (keep_new l x some kept) cid ≡ option_or (kept_spot kept cid) (cond (list_any (λ a. same_cid cid a.cid) some) (least_spot l x cid) None)
   keep_some [] cid = or_none (kept_spot kept cid)
-    where
-      or_none : (k : Option Spot) → k ≡ option_or k None
-      or_none None = refl
-      or_none (Some k) = refl
   keep_some (a ∷ some) cid = by_call (same_cid cid a.cid) refl (keep_some some cid)
     where
       by_call : (t : Bool) → same_cid cid a.cid ≡ t

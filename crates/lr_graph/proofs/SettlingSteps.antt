@@ -79,7 +79,8 @@ module _ {Op : Type 0} (l : List (Acceptance Op)) (r : SpotSet) (sound : IsSound
       by_part s (inr k) = ap r (same_spot-is s a.spot k) ∙ here
 
   -- an update whose causes are at most the stamp of ready ones is ready itself
-  pub applicable-ready : (rep_ts val_ts : List ℕ) (named : SpotSet) → IsCounted r rep_ts → Names val_ts named → ((s : Spot) → named s ≡ true → ready l r s ≡ true) → (u : LogUpdate Op) (a : Acceptance Op) → StandsFor l u a → stamp_le u.prev val_ts ≡ true → r a.spot ≡ true → ready l r a.spot ≡ true
+  pub applicable-ready : (rep_ts val_ts : List ℕ) (named : SpotSet) → IsCounted r rep_ts → Names val_ts named → ((s : Spot) → named s ≡ true → ready l r s ≡ true)
+      → (u : LogUpdate Op) (a : Acceptance Op) → StandsFor l u a → stamp_le u.prev val_ts ≡ true → r a.spot ≡ true → ready l r a.spot ≡ true
   applicable-ready rep_ts val_ts named counted names within u a stands low here = causes-ready a stands.among here (λ s h.
       let b = causes-made l sound.older a stands.among s h in
       let some : 0 < s.number = subst (λ (k : Spot). 0 < k.number) b.2 (each-at _ b.0 l sound.numbered b.1) in
@@ -103,7 +104,8 @@ module _ {Op : Type 0} (l : List (Acceptance Op)) (r applied : SpotSet) (kept : 
       absorbed cid false e = refl
 
   -- a call that isn't known is entered, at the spot that is kept of it
-  table-new : (u : LogUpdate Op) → StandsFor l u a → Names (stamp_of u) a.below → spot_to_keep l (ready l r) kept a.cid ≡ Some a.spot → IsTableSoFar l r (applied ∪ only a.spot) kept (calls ++ (u.cid, record { spot = u.spot; stamp = stamp_of u }) ∷ [])
+  table-new : (u : LogUpdate Op) → StandsFor l u a → Names (stamp_of u) a.below → spot_to_keep l (ready l r) kept a.cid ≡ Some a.spot
+      → IsTableSoFar l r (applied ∪ only a.spot) kept (calls ++ (u.cid, record { spot = u.spot; stamp = stamp_of u }) ∷ [])
   table-new u stands stamp keeps = record {
     spots = λ cid k h. elim (known_of-either calls u.cid _ cid k h) [
       | inl before ↦ t.spots cid k before

@@ -1,5 +1,6 @@
 -- Taking the first update whose causes are applied, and what is known in a longer table.
 use Rattle.std.proofs.Common.{◌≡◌, ℕ, suc, Bool, true, false, cond, ◌||◌, ◌⊎◌, inl, inr, List, [], ◌∷◌, ◌++◌, length, filter, Option, Some, None, is_some, refl, sym, ap, ◌∙◌, subst, true≢false}
+use Rattle.std.proofs.lemmas.Option.{none-some}
 use Rattle.std.specs.Option.{option_map}
 use Rattle.lr_base.specs.Rules.{is_before, known_of, same_cid, take_ready}
 use Rattle.lr_base.specs.Stamps.{stamp_le}
@@ -67,7 +68,8 @@ module _ {Op : Type 0} (val_ts : List ℕ) where
   }
 
   -- one behind the first of the list, where that one's causes aren't applied
-  taken-behind : (v : LogUpdate Op) (todo : List (LogUpdate Op)) (u : LogUpdate Op) (rest : List (LogUpdate Op)) → IsAscending (v ∷ todo) → stamp_le v.prev val_ts ≡ false → IsTaken val_ts todo u rest → IsTaken val_ts (v ∷ todo) u (v ∷ rest)
+  taken-behind : (v : LogUpdate Op) (todo : List (LogUpdate Op)) (u : LogUpdate Op) (rest : List (LogUpdate Op)) → IsAscending (v ∷ todo)
+      → stamp_le v.prev val_ts ≡ false → IsTaken val_ts todo u rest → IsTaken val_ts (v ∷ todo) u (v ∷ rest)
   taken-behind v todo u rest ascending not_yet t = record {
     among = inr t.among;
     applicable = t.applicable;
@@ -84,10 +86,7 @@ module _ {Op : Type 0} (val_ts : List ℕ) where
 
   -- what is taken is the first one whose causes are applied
   pub take_ready-some : (todo : List (LogUpdate Op)) (taken : Taken Op) → IsAscending todo → take_ready val_ts todo ≡ Some taken → IsTaken val_ts todo taken.0 taken.1
-  take_ready-some [] taken ascending e = absurd (none_some e)
-    where
-      none_some : ◌≡◌ {A = Option (Taken Op)} None (Some taken) → ⊥
-      none_some e = cc
+  take_ready-some [] taken ascending e = absurd (none-some _ e)
   take_ready-some (v ∷ todo) taken ascending e = at_first (stamp_le v.prev val_ts) refl e (λ other. take_ready-some todo other ascending.1)
     where
       same_taken : (one : Taken Op) → IsTaken val_ts (v ∷ todo) one.0 one.1 → one ≡ taken → IsTaken val_ts (v ∷ todo) taken.0 taken.1
@@ -103,10 +102,7 @@ module _ {Op : Type 0} (val_ts : List ℕ) where
       at_first false not_yet e rest = by_other (take_ready val_ts todo) refl e
         where
           by_other : (o : Option (Taken Op)) → take_ready val_ts todo ≡ o → take_when v todo o false ≡ Some taken → IsTaken val_ts (v ∷ todo) taken.0 taken.1
-          by_other None q e = absurd (none_some e)
-            where
-              none_some : ◌≡◌ {A = Option (Taken Op)} None (Some taken) → ⊥
-              none_some e = cc
+          by_other None q e = absurd (none-some _ e)
           by_other (Some other) q e =
               same_taken (other.0, v ∷ other.1) (taken-behind v todo other.0 other.1 ascending not_yet (rest other q)) (some_same (other.0, v ∷ other.1) e)
 
@@ -115,29 +111,24 @@ module _ {Op : Type 0} (val_ts : List ℕ) where
   take_ready-none [] e = tt
   take_ready-none (v ∷ todo) e = at_first (stamp_le v.prev val_ts) refl e (take_ready-none todo)
     where
-      some_none : (one : Taken Op) → Some one ≡ None → ⊥
-      some_none one e = cc
-
       at_first : (t : Bool) → stamp_le v.prev val_ts ≡ t → take_when v todo (take_ready val_ts todo) t ≡ None
           → (take_ready val_ts todo ≡ None → Each (λ u. stamp_le u.prev val_ts ≡ false) todo) → Each (λ u. stamp_le u.prev val_ts ≡ false) (v ∷ todo)
-      at_first true here e rest = absurd (some_none (v, todo) e)
+      at_first true here e rest = absurd (none-some (v, todo) (sym e))
       at_first false not_yet e rest = (not_yet, rest (by_other (take_ready val_ts todo) e))
         where
           by_other : (o : Option (Taken Op)) → take_when v todo o false ≡ None → o ≡ None
           by_other None e = refl
-          by_other (Some other) e = absurd (some_none (other.0, v ∷ other.1) e)
+          by_other (Some other) e = absurd (none-some (other.0, v ∷ other.1) (sym e))
 
 -- ---- a longer table of executed calls
 
 -- what is known of a call stays known
 pub known_of-before : (calls more : List (Cid × Known)) (cid : Cid) (k : Known) → known_of calls cid ≡ Some k → known_of (calls ++ more) cid ≡ Some k
-known_of-before [] more cid k e = absurd (none_some e)
-  where
-    none_some : ◌≡◌ {A = Option Known} None (Some k) → ⊥
-    none_some e = cc
+known_of-before [] more cid k e = absurd (none-some _ e)
 known_of-before (c ∷ calls) more cid k e = at_first (same_cid cid c.0) e (known_of-before calls more cid k)
   where
-    at_first : (t : Bool) → cond t (Some c.1) (known_of calls cid) ≡ Some k → (known_of calls cid ≡ Some k → known_of (calls ++ more) cid ≡ Some k) → cond t (Some c.1) (known_of (calls ++ more) cid) ≡ Some k
+    at_first : (t : Bool) → cond t (Some c.1) (known_of calls cid) ≡ Some k → (known_of calls cid ≡ Some k → known_of (calls ++ more) cid ≡ Some k)
+        → cond t (Some c.1) (known_of (calls ++ more) cid) ≡ Some k
     at_first true e rest = e
     at_first false e rest = rest e
 
@@ -146,15 +137,14 @@ pub known_of-behind : (calls more : List (Cid × Known)) (cid : Cid) → known_o
 known_of-behind [] more cid e = refl
 known_of-behind (c ∷ calls) more cid e = at_first (same_cid cid c.0) e (known_of-behind calls more cid)
   where
-    at_first : (t : Bool) → cond t (Some c.1) (known_of calls cid) ≡ None → (known_of calls cid ≡ None → known_of (calls ++ more) cid ≡ known_of more cid) → cond t (Some c.1) (known_of (calls ++ more) cid) ≡ known_of more cid
-    at_first true e rest = absurd (some_none e)
-      where
-        some_none : Some c.1 ≡ None → ⊥
-        some_none e = cc
+    at_first : (t : Bool) → cond t (Some c.1) (known_of calls cid) ≡ None → (known_of calls cid ≡ None → known_of (calls ++ more) cid ≡ known_of more cid)
+        → cond t (Some c.1) (known_of (calls ++ more) cid) ≡ known_of more cid
+    at_first true e rest = absurd (none-some _ (sym e))
     at_first false e rest = rest e
 
 -- a call is known in a table with one more entry where it was known or is the entry's
-pub known_of-more : (calls : List (Cid × Known)) (entered : Cid) (k : Known) (cid : Cid) → is_some (known_of (calls ++ (entered, k) ∷ []) cid) ≡ (same_cid cid entered || is_some (known_of calls cid))
+pub known_of-more : (calls : List (Cid × Known)) (entered : Cid) (k : Known) (cid : Cid)
+    → is_some (known_of (calls ++ (entered, k) ∷ []) cid) ≡ (same_cid cid entered || is_some (known_of calls cid))
 known_of-more calls entered k cid = by_known (known_of calls cid) refl
   where
     entry : (t : Bool) → is_some (cond t (Some k) None) ≡ (t || false)
@@ -166,15 +156,13 @@ known_of-more calls entered k cid = by_known (known_of calls cid) refl
     by_known None e = ap is_some (known_of-behind calls _ cid e) ∙ entry (same_cid cid entered)
 
 -- what is known of a call there was known of it before, or is the new entry
-pub known_of-either : (calls : List (Cid × Known)) (entered : Cid) (k : Known) (cid : Cid) (j : Known) → known_of (calls ++ (entered, k) ∷ []) cid ≡ Some j → (known_of calls cid ≡ Some j) ⊎ ((cid ≡ entered) × (k ≡ j))
+pub known_of-either : (calls : List (Cid × Known)) (entered : Cid) (k : Known) (cid : Cid) (j : Known) → known_of (calls ++ (entered, k) ∷ []) cid ≡ Some j
+    → (known_of calls cid ≡ Some j) ⊎ ((cid ≡ entered) × (k ≡ j))
 known_of-either calls entered k cid j h = by_known (known_of calls cid) refl
   where
     entry : (t : Bool) → same_cid cid entered ≡ t → cond t (Some k) None ≡ Some j → (cid ≡ entered) × (k ≡ j)
     entry true e q = let is : k ≡ j = cc in (same_cid-is cid entered e, is)
-    entry false e q = absurd (none_some q)
-      where
-        none_some : ◌≡◌ {A = Option Known} None (Some j) → ⊥
-        none_some q = cc
+    entry false e q = absurd (none-some _ q)
 
     by_known : (o : Option Known) → known_of calls cid ≡ o → (o ≡ Some j) ⊎ ((cid ≡ entered) × (k ≡ j))
     by_known (Some i) e = inl (sym (known_of-before calls _ cid i e) ∙ h)

@@ -75,7 +75,8 @@ module _ {Value Op : Type 0} (m : Meaning Value Op) where
       λ i. cond (same.0 i && not (has_call-same l x y a.cid same.1 i)) (m.apply (value-same l x y same.1 i) a.op) (value-same l x y same.1 i)
 
   -- the value after the newest acceptance, once its tests are known
-  value-newest : (b : Acceptance Op) (l : List (Acceptance Op)) (x : SpotSet) (here before : Bool) → x b.spot ≡ here → has_call l x b.cid ≡ before → value m (b ∷ l) x ≡ cond (here && not before) (m.apply (value m l x) b.op) (value m l x)
+  value-newest : (b : Acceptance Op) (l : List (Acceptance Op)) (x : SpotSet) (here before : Bool) → x b.spot ≡ here → has_call l x b.cid ≡ before
+      → value m (b ∷ l) x ≡ cond (here && not before) (m.apply (value m l x) b.op) (value m l x)
   value-newest b l x here before e f = λ i. cond (e i && not (f i)) (m.apply (value m l x) b.op) (value m l x)
 
   -- where the set lacks it, the newest acceptance makes no difference
@@ -87,7 +88,8 @@ module _ {Value Op : Type 0} (m : Meaning Value Op) where
   only-others l x a apart = each-map _ _ l (λ b other. or-false (x b.spot) _ other) apart
 
   -- an acceptance of a call that the set lacks may be applied last
-  pub value-new : (l : List (Acceptance Op)) (x : SpotSet) (a : Acceptance Op) → HasApartSpots l → IsAmong a l → x a.spot ≡ false → has_call l x a.cid ≡ false → CommutesWithNewer m x a l → value m l (x ∪ only a.spot) ≡ m.apply (value m l x) a.op
+  pub value-new : (l : List (Acceptance Op)) (x : SpotSet) (a : Acceptance Op) → HasApartSpots l → IsAmong a l → x a.spot ≡ false → has_call l x a.cid ≡ false
+      → CommutesWithNewer m x a l → value m l (x ∪ only a.spot) ≡ m.apply (value m l x) a.op
   value-new [] x a apart member out none commutes = absurd member
   value-new (b ∷ l) x a apart (inl e) out none commutes =
       let others : Each (λ c. (x ∪ only a.spot) c.spot ≡ x c.spot) l = only-others l x a (each-map _ _ l (λ c other. ap (λ (d : Acceptance Op). same_spot c.spot d.spot) e ∙ other) apart.0) in
@@ -101,14 +103,16 @@ module _ {Value Op : Type 0} (m : Meaning Value Op) where
       let other : same_spot b.spot a.spot ≡ false = same_spot-sym b.spot a.spot ∙ each-at _ a l apart.0 member in
       by_newest (x b.spot) refl (or-false (x b.spot) _ other) (value-new l x a apart.1 member out (or-false_right (x b.spot && same_cid a.cid b.cid) _ none) commutes.1)
     where
-      by_newest : (here : Bool) → x b.spot ≡ here → (x ∪ only a.spot) b.spot ≡ x b.spot → value m l (x ∪ only a.spot) ≡ m.apply (value m l x) a.op → value m (b ∷ l) (x ∪ only a.spot) ≡ m.apply (value m (b ∷ l) x) a.op
+      by_newest : (here : Bool) → x b.spot ≡ here → (x ∪ only a.spot) b.spot ≡ x b.spot → value m l (x ∪ only a.spot) ≡ m.apply (value m l x) a.op
+          → value m (b ∷ l) (x ∪ only a.spot) ≡ m.apply (value m (b ∷ l) x) a.op
       by_newest false e stays rest = value-lacks b l (x ∪ only a.spot) (stays ∙ e) ∙ rest ∙ ap (λ v. m.apply v a.op) (sym (value-lacks b l x e))
       by_newest true e stays rest =
           let apart_calls : same_cid b.cid a.cid ≡ false = same_cid-sym b.cid a.cid ∙ ap (λ t. t && same_cid a.cid b.cid) (sym e) ∙ or-false_left (x b.spot && same_cid a.cid b.cid) _ none in
           let calls : has_call l (x ∪ only a.spot) b.cid ≡ has_call l x b.cid = has_call-more l x a apart.1 member b.cid ∙ ap (λ t. t || has_call l x b.cid) apart_calls in
           by_call (has_call l x b.cid) refl calls
         where
-          by_call : (before : Bool) → has_call l x b.cid ≡ before → has_call l (x ∪ only a.spot) b.cid ≡ has_call l x b.cid → value m (b ∷ l) (x ∪ only a.spot) ≡ m.apply (value m (b ∷ l) x) a.op
+          by_call : (before : Bool) → has_call l x b.cid ≡ before → has_call l (x ∪ only a.spot) b.cid ≡ has_call l x b.cid
+              → value m (b ∷ l) (x ∪ only a.spot) ≡ m.apply (value m (b ∷ l) x) a.op
           by_call true f calls =
               value-newest b l (x ∪ only a.spot) true true (stays ∙ e) (calls ∙ f) ∙ rest ∙ ap (λ v. m.apply v a.op) (sym (value-newest b l x true true e f))
           by_call false f calls =
@@ -118,7 +122,8 @@ module _ {Value Op : Type 0} (m : Meaning Value Op) where
               ∙ ap (λ v. m.apply v a.op) (sym (value-newest b l x true false e f))
 
   -- an acceptance of a call that the set has makes no difference
-  pub value-again : (l : List (Acceptance Op)) (x : SpotSet) (a : Acceptance Op) → HasApartSpots l → Each (λ b. a.cid ≡ b.cid → a.op ≡ b.op) l → IsAmong a l → x a.spot ≡ false → has_call l x a.cid ≡ true → CommutesWithNewer m x a l → value m l (x ∪ only a.spot) ≡ value m l x
+  pub value-again : (l : List (Acceptance Op)) (x : SpotSet) (a : Acceptance Op) → HasApartSpots l → Each (λ b. a.cid ≡ b.cid → a.op ≡ b.op) l → IsAmong a l
+      → x a.spot ≡ false → has_call l x a.cid ≡ true → CommutesWithNewer m x a l → value m l (x ∪ only a.spot) ≡ value m l x
   value-again [] x a apart one_op member out has commutes = absurd member
   value-again (b ∷ l) x a apart one_op (inl e) out has commutes =
       let others : Each (λ c. (x ∪ only a.spot) c.spot ≡ x c.spot) l = only-others l x a (each-map _ _ l (λ c other. ap (λ (d : Acceptance Op). same_spot c.spot d.spot) e ∙ other) apart.0) in
@@ -132,7 +137,8 @@ module _ {Value Op : Type 0} (m : Meaning Value Op) where
       let other : same_spot b.spot a.spot ≡ false = same_spot-sym b.spot a.spot ∙ each-at _ a l apart.0 member in
       by_older (has_call l x a.cid) refl (or-false (x b.spot) _ other) (value-again l x a apart.1 one_op.1 member out)
     where
-      by_older : (older : Bool) → has_call l x a.cid ≡ older → (x ∪ only a.spot) b.spot ≡ x b.spot → (has_call l x a.cid ≡ true → CommutesWithNewer m x a l → value m l (x ∪ only a.spot) ≡ value m l x) → value m (b ∷ l) (x ∪ only a.spot) ≡ value m (b ∷ l) x
+      by_older : (older : Bool) → has_call l x a.cid ≡ older → (x ∪ only a.spot) b.spot ≡ x b.spot
+          → (has_call l x a.cid ≡ true → CommutesWithNewer m x a l → value m l (x ∪ only a.spot) ≡ value m l x) → value m (b ∷ l) (x ∪ only a.spot) ≡ value m (b ∷ l) x
       by_older true e stays rest =
           let calls : has_call l (x ∪ only a.spot) b.cid ≡ has_call l x b.cid = has_call-more l x a apart.1 member b.cid ∙ absorbed (same_cid b.cid a.cid) refl in
           let same : value m l (x ∪ only a.spot) ≡ value m l x = rest e commutes.1 in
