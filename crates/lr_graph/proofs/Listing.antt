@@ -1,21 +1,16 @@
 -- What a state line lists of a replica, in the graph and by the rules.
-use Rattle.std.proofs.Common.{◌≡◌, ◌≢◌, ℕ, zero, suc, ◌<◌, ◌≤◌, Bool, true, false, cond, ◌&&◌, ◌||◌, ◌==◌, ◌⊎◌, inl, inr, nat_lt, List, [], ◌∷◌, length, map, Option, Some, None, is_some, refl, sym, ap, ◌∙◌, arith, true≢false, eqb-true, eq-eqb, le-leb, leb-true}
-use Rattle.lr_base.specs.Ascending.{ascending, cid_before as earlier, put_cid}
-use Rattle.lr_base.specs.Rules.{is_before, known_of, same_cid}
-use Rattle.lr_base.specs.declared.messages.Known.{Known}
+use Rattle.std.proofs.Common.{◌≡◌, ℕ, suc, Bool, true, false, cond, ◌⊎◌, inl, inr, List, [], ◌∷◌, length, map, refl, sym, ap, ◌∙◌, subst, true≢false}
+use Rattle.lr_base.specs.Rules.{is_before}
 use Rattle.lr_base.specs.declared.messages.LogUpdate.{LogUpdate}
-use Rattle.lr_base.specs.declared.names.Cid.{Cid}
 use Rattle.lr_base.specs.declared.names.Spot.{Spot}
 use Rattle.lr_graph.specs.Closed.{Each, HasApartSpots, IsAmong, IsSound}
-use Rattle.lr_graph.specs.Graph.{Acceptance, calls_of, has_call, size_of, spots_of}
-use Rattle.lr_graph.specs.Sets.{SpotSet, cid_before, how_many, put_call, put_spot}
+use Rattle.lr_graph.specs.Graph.{Acceptance, size_of, spots_of}
+use Rattle.lr_graph.specs.Sets.{SpotSet, put_spot, same_spot}
 use Rattle.lr_graph.proofs.Ascents.{Ascends, same-ascents}
 use Rattle.lr_graph.proofs.Members.{each-at, each-from, each-map}
 use Rattle.lr_graph.proofs.Orders.{before-apart, before-total, before-trans}
-use Rattle.lr_graph.proofs.Relation.{HasApartKeys}
-use Rattle.lr_graph.proofs.Tests.{and-intro, and-left, and-right, equal-or-not, le-or-lt, never, or-cases, or-left, or-right, same_cid-is, same_cid-self, same_spot-self}
+use Rattle.lr_graph.proofs.Tests.{same_spot-self}
 use Rattle.lr_graph.proofs.Ties.{HasUpdateAt, IsAscending, IsLogOf}
-use Rattle.lr_graph.proofs.Values.{has_call-holds, holds-has_call}
 
 -- ---- the spots of a log
 
@@ -84,7 +79,7 @@ module _ {Op : Type 0} where
   ascends-spots_of (a ∷ l) g apart = at_head (g a.spot) (ascends-spots_of l g apart.1)
     where
       at_head : (t : Bool) → Ascends is_before (spots_of l g) → Ascends is_before (cond t (put_spot a.spot (spots_of l g)) (spots_of l g))
-      at_head true rest = ascends-put_spot a.spot (spots_of l g) (each-spots_of (λ s. a.spot ≡ s → ⊥) l g (each-map _ _ l (λ b h here same. true≢false (sym (ap (λ s. Rattle.lr_graph.specs.Sets.same_spot s a.spot) (sym same) ∙ same_spot-self a.spot) ∙ h)) apart.0)) rest
+      at_head true rest = ascends-put_spot a.spot (spots_of l g) (each-spots_of (λ s. a.spot ≡ s → ⊥) l g (each-map _ _ l (λ b h here same. true≢false (sym (ap (λ s. same_spot s a.spot) (sym same) ∙ same_spot-self a.spot) ∙ h)) apart.0)) rest
       at_head false rest = rest
 
   length-spots_of : (l : List (Acceptance Op)) (g : SpotSet) → length (spots_of l g) ≡ size_of l g
@@ -94,9 +89,6 @@ module _ {Op : Type 0} where
       at_head : (t : Bool) → length (spots_of l g) ≡ size_of l g → length (cond t (put_spot a.spot (spots_of l g)) (spots_of l g)) ≡ cond t (suc (size_of l g)) (size_of l g)
       at_head true rest = length-put_spot a.spot (spots_of l g) ∙ ap suc rest
       at_head false rest = rest
-
-  log-spots : List (LogUpdate Op) → List Spot
-  log-spots us = map (λ u. u.spot) us
 
   among-log : (us : List (LogUpdate Op)) (u : LogUpdate Op) → IsAmong u us → IsAmong u.spot (map (λ x. x.spot) us)
   among-log [] u member = absurd member
@@ -119,10 +111,10 @@ module _ {Op : Type 0} where
       (λ s member. each-at _ s (map (λ u. u.spot) us) (each-log (λ s. IsAmong s (spots_of l g)) us (each-map _ _ us (λ u h. back u h.0 h.1.among h.1.spot h.2) log.each)) member)
     where
       there : {s : Spot} → HasUpdateAt s us → IsAmong s (map (λ u. u.spot) us)
-      there h = Rattle.std.proofs.Common.subst (λ (s : Spot). IsAmong s (map (λ u. u.spot) us)) h.2 (among-log us h.0 h.1)
+      there h = subst (λ (s : Spot). IsAmong s (map (λ u. u.spot) us)) h.2 (among-log us h.0 h.1)
 
       back : (u : LogUpdate Op) (a : Acceptance Op) → IsAmong a l → u.spot ≡ a.spot → g a.spot ≡ true → IsAmong u.spot (spots_of l g)
-      back u a member is here = Rattle.std.proofs.Common.subst (λ (s : Spot). IsAmong s (spots_of l g)) (sym is) (among-spots_of l g a member here)
+      back u a member is here = subst (λ (s : Spot). IsAmong s (spots_of l g)) (sym is) (among-spots_of l g a member here)
 
   length-map : (us : List (LogUpdate Op)) → length (map (λ u. u.spot) us) ≡ length us
   length-map [] = refl

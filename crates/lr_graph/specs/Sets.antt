@@ -1,5 +1,6 @@
 -- Sets of spots, as tests, and lists made of them.
-use Rattle.std.specs.Prelude.{ℕ, suc, Bool, false, ◌&&◌, ◌||◌, ◌==◌, nat_lt, if◌then◌else◌, List, [], ◌∷◌, Option, Some, None}
+use Rattle.std.specs.Prelude.{ℕ, suc, Bool, false, ◌&&◌, ◌||◌, ◌==◌, if◌then◌else◌, List, [], ◌∷◌, Option, Some, None}
+use Rattle.lr_base.specs.Ascending.{cid_before}
 use Rattle.lr_base.specs.Rules.{same_cid, is_before}
 use Rattle.lr_base.specs.declared.names.Cid.{Cid}
 use Rattle.lr_base.specs.declared.names.Spot.{Spot}
@@ -38,10 +39,6 @@ how_many test (x ∷ xs) = if test x then suc (how_many test xs) else how_many t
 abbrev pub lesser : Spot → Option Spot → Option Spot
 lesser a None = Some a
 lesser a (Some b) = Some (if is_before a b then a else b)
-
--- whether a call comes before another: by client, and then by number
-abbrev pub cid_before : Cid → Cid → Bool
-cid_before a b = nat_lt a.client b.client || ((a.client == b.client) && nat_lt a.seq b.seq)
 
 -- the ascending list with this call in it, once
 abbrev pub put_call : Cid → List Cid → List Cid
