@@ -103,7 +103,7 @@ module _ {Op : Type 0} (l : List (Acceptance Op)) (sound : IsSound l) (spot : Sp
 
 module _ {Value Op : Type 0} (m : Meaning Value Op) (config : Config) (l : List (Acceptance Op)) (sound : IsSound l) (r g : SpotSet) (kept : List Kept) (held : List (LabelledCall Op)) (state : CausalState Value Op) (ok : IsReplicaAt m config l r g kept held state)
     (i : ℕ) (own : (b : Acceptance Op) → IsAmong b l → b.spot.place ≡ i → r b.spot ≡ true) (exist : (s : Spot) → r s ≡ true → IsMade l s) where
-  abbrev next : Spot
+  abbrev pub next : Spot
   next = spot_at i (part state.rep_ts i + 1)
 
   -- no acceptance has the next spot
@@ -159,10 +159,10 @@ module _ {Value Op : Type 0} (m : Meaning Value Op) (config : Config) (l : List 
               or-right (r s) _ (ap (λ k. same_spot k next) (λ j. spot_at (e j) (number j)) ∙ same_spot-self next)
 
   module _ (call : Call Op) (x : SpotSet) (names : Names call.prev x) (set : IsSetOf l x) (op : Op) (same_op : call.op ≡ op) (cid : Cid) (same_cid : call.cid ≡ cid) where
-    abbrev a : Acceptance Op
+    abbrev pub a : Acceptance Op
     a = made_at l sound next next-fresh (omega arith) cid op x set
 
-    abbrev u : LogUpdate Op
+    abbrev pub u : LogUpdate Op
     u = update_of_call i state call
 
     -- the update's causes are its call's label
@@ -181,7 +181,7 @@ module _ {Value Op : Type 0} (m : Meaning Value Op) (config : Config) (l : List 
             let most = counted-most r state.rep_ts ok.counted _ got in
             omega arith
 
-    new-stands : StandsFor (a ∷ l) u a
+    pub new-stands : StandsFor (a ∷ l) u a
     new-stands = record {
       among = inl refl;
       spot = refl;
