@@ -23,6 +23,11 @@ IsQuery kind = is_query kind ≡ true
 abbrev pub IsUpdate : Kind → Type 0
 IsUpdate kind = is_query kind ≡ false
 
+-- an operation of this kind is ordered by labels alone
+pub record IsPlain (kind : Kind) : Type 0 where
+  pub not_forced : is_forced kind ≡ false
+  pub not_immediate : is_immediate kind ≡ false
+
 -- two updates of these kinds need one order everywhere: one is immediate, or both are forced
 abbrev pub are_ordered : Kind → Kind → Bool
 are_ordered a b = is_immediate a || is_immediate b || (is_forced a && is_forced b)

@@ -1,9 +1,9 @@
 -- A replica that accepts a call.
-use Rattle.std.proofs.Common.{◌≡◌, ◌≢◌, ℕ, zero, suc, ◌+◌, ◌<◌, ◌≤◌, Bool, true, false, cond, not, ◌&&◌, ◌||◌, ◌⊎◌, inl, inr, nat_lt, nat_le, max, List, [], ◌∷◌, refl, sym, ap, ◌∙◌, subst, arith, true≢false, le-leb, leb-true}
+use Rattle.std.proofs.Common.{◌≡◌, ◌≢◌, ℕ, zero, suc, ◌+◌, ◌<◌, ◌≤◌, true, false, not, ◌&&◌, ◌||◌, ◌⊎◌, inl, inr, nat_lt, nat_le, List, ◌∷◌, refl, sym, ap, ◌∙◌, subst, arith, true≢false, le-leb, leb-true}
 use Rattle.lr_base.specs.Meaning.{Meaning}
 use Rattle.lr_base.specs.Rules.{CausalState, accepted, put_update, stamp_of, update_of_call}
 use Rattle.lr_base.specs.StampLaws.{part-join, part-set_part, part-set_part_other, parts-stamp_le}
-use Rattle.lr_base.specs.Stamps.{join, part, set_part, stamp_le}
+use Rattle.lr_base.specs.Stamps.{part, set_part, stamp_le}
 use Rattle.lr_base.specs.declared.messages.Call.{Call}
 use Rattle.lr_base.specs.declared.messages.LogUpdate.{LogUpdate}
 use Rattle.lr_base.specs.declared.names.Cid.{Cid}
@@ -15,7 +15,7 @@ use Rattle.lr_graph.specs.Names.{IsCounted, Names, spot_at}
 use Rattle.lr_graph.specs.Sets.{SpotSet, only, same_spot, ◌∪◌}
 use Rattle.lr_graph.proofs.Central.{below-set, counted-has, counted-least, counted-most, stamp_le-within}
 use Rattle.lr_graph.proofs.Members.{each-at, each-from, each-map}
-use Rattle.lr_graph.proofs.More.{applied-more, log-more, not-in, not-ready, set-more, stands-more}
+use Rattle.lr_graph.proofs.More.{applied-more, not-ready, set-more, stands-more}
 use Rattle.lr_graph.proofs.Orders.{among-put, among-put_old, ascending-put, each-put}
 use Rattle.lr_graph.proofs.ReadySets.{apart-same, holds-ready, names-same, ready-holds, update-stamp, within-holds}
 use Rattle.lr_graph.proofs.Relation.{IsReplicaAt}

@@ -13,7 +13,7 @@ use Rattle.lr_graph.proofs.Ascents.{Ascends, same-ascents}
 use Rattle.lr_graph.proofs.Members.{each-at, each-map}
 use Rattle.lr_graph.proofs.Orders.{before-apart, before-total, before-trans}
 use Rattle.lr_graph.proofs.Relation.{HasApartKeys}
-use Rattle.lr_graph.proofs.Tests.{same_cid-is, same_cid-self, same_cid-sym}
+use Rattle.lr_graph.proofs.Tests.{same_cid-is, same_cid-self}
 use Rattle.lr_graph.proofs.Values.{has_call-holds, holds-has_call}
 
 -- calls are in the order of spots with the client for the place
@@ -168,9 +168,9 @@ module _ {Op : Type 0} where
   calls-table l x calls apart known =
       same-ascents cid_before cid-apart cid-trans (calls_of l x) (ascending (map (λ e. e.0) calls)) (ascends-calls_of l x) (ascends-keys calls apart)
       (λ cid member. each-at _ cid (calls_of l x) (each-calls_of (λ c. IsAmong c (ascending (map (λ e. e.0) calls))) l x
-          (Rattle.lr_graph.proofs.Members.each-from _ l (λ a in_l here. among-keys calls a.cid (known a.cid ∙ holds-has_call l x a.cid a in_l here refl)))) member)
+      (Rattle.lr_graph.proofs.Members.each-from _ l (λ a in_l here. among-keys calls a.cid (known a.cid ∙ holds-has_call l x a.cid a in_l here refl)))) member)
       (λ cid member. each-at _ cid (ascending (map (λ e. e.0) calls)) (each-keys (λ c. IsAmong c (calls_of l x)) calls
-          (each-map _ _ calls (λ e h. back e.0 (has_call-holds l x e.0 (sym (known e.0) ∙ h))) (each-known calls calls (λ c h. h)))) member)
+      (each-map _ _ calls (λ e h. back e.0 (has_call-holds l x e.0 (sym (known e.0) ∙ h))) (each-known calls calls (λ c h. h)))) member)
     where
       back : (cid : Cid) → (a : Acceptance Op) × IsAmong a l × (x a.spot ≡ true) × (a.cid ≡ cid) → IsAmong cid (calls_of l x)
       back cid h = Rattle.std.proofs.Common.subst (λ (c : Cid). IsAmong c (calls_of l x)) h.3 (among-calls_of l x h.0 h.1 h.2)

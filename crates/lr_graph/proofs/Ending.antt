@@ -1,39 +1,34 @@
 -- The end of a replica's step: what is ready is applied, and held queries are answered.
-use Rattle.std.proofs.Common.{◌≡◌, ℕ, zero, suc, ◌+◌, ◌<◌, Bool, true, false, cond, not, ◌&&◌, ◌==◌, ◌⊎◌, inl, inr, List, [], ◌∷◌, ◌++◌, filter, length, Option, refl, sym, ap, ◌∙◌, subst, arith, true≢false, eqb-true}
+use Rattle.std.proofs.Common.{◌≡◌, ℕ, suc, ◌+◌, Bool, true, false, cond, not, ◌&&◌, ◌==◌, List, [], ◌∷◌, ◌++◌, filter, length, Option, refl, sym, ap, ◌∙◌, subst, arith, true≢false}
 use Rattle.std.proofs.lemmas.List.{append_assoc, append-nil, length-append}
 use Rattle.lr_base.specs.Fronts.{FrontState}
-use Rattle.lr_base.specs.Meaning.{Lawful, Meaning}
+use Rattle.lr_base.specs.Meaning.{Meaning}
 use Rattle.lr_base.specs.Rules.{CausalState, applied, pruned}
 use Rattle.lr_base.specs.Stamps.{stamp_le}
-use Rattle.lr_base.specs.Steps.{answer_act, ended, held_acts, still_held}
-use Rattle.lr_base.specs.declared.acts.Act.{Act}
-use Rattle.lr_base.specs.declared.acts.Act.TheVariants.{Send}
+use Rattle.lr_base.specs.Steps.{answer_act, held_acts, still_held}
 use Rattle.lr_base.specs.declared.acts.Posted.{Posted}
-use Rattle.lr_base.specs.declared.events.Outcome.{Outcome}
 use Rattle.lr_base.specs.declared.events.Outcome.TheVariants.{Send as SendLine}
 use Rattle.lr_base.specs.declared.events.Sent.TheVariants.{Answer as AnswerSent}
-use Rattle.lr_base.specs.declared.lr_service.Kind.{Kind}
 use Rattle.lr_base.specs.declared.messages.Call.{Call}
 use Rattle.lr_base.specs.declared.messages.Message.TheVariants.{Answer}
 use Rattle.lr_base.specs.declared.names.Actor.TheVariants.{Client, Replica}
 use Rattle.lr_base.specs.declared.names.Cid.{Cid}
 use Rattle.lr_base.specs.declared.names.Config.{Config}
 use Rattle.lr_base.specs.declared.names.Spot.{Spot}
-use Rattle.lr_graph.specs.After.{line_read, lines_read}
-use Rattle.lr_graph.specs.Closed.{Each, IsAmong, IsSetOf, IsSound}
-use Rattle.lr_graph.specs.Graph.{Acceptance, AnswerReply, Facts, Kept, LabelledCall, SentMessage, is_within, keep_new, ready, value}
+use Rattle.lr_graph.specs.After.{lines_read}
+use Rattle.lr_graph.specs.Closed.{Each, IsSetOf, IsSound}
+use Rattle.lr_graph.specs.Graph.{Acceptance, AnswerReply, Facts, Kept, LabelledCall, SentMessage, is_within, ready, value}
 use Rattle.lr_graph.specs.Legal.{answer_line, answers, logged}
 use Rattle.lr_graph.specs.Names.{Names}
 use Rattle.lr_graph.specs.Runs.{act_lines, act_posts}
-use Rattle.lr_graph.specs.Sets.{SpotSet, nothing}
+use Rattle.lr_graph.specs.Sets.{SpotSet}
 use Rattle.lr_graph.proofs.Central.{stamp_le-within}
 use Rattle.lr_graph.proofs.Keys.{keys-applied}
-use Rattle.lr_graph.proofs.Members.{each-at, each-from, each-map}
+use Rattle.lr_graph.proofs.Members.{each-from, each-map}
 use Rattle.lr_graph.proofs.Posting.{message-sent, posting}
 use Rattle.lr_graph.proofs.ReadySets.{holds-ready, ready-closed, ready-holds}
 use Rattle.lr_graph.proofs.Relation.{IsReplicaAt, IsShared, IsStill, SameCall, SameHeld, SameList}
-use Rattle.lr_graph.proofs.Settling.{settled}
-use Rattle.lr_graph.proofs.Ties.{HasApplied, HasOneCall, IsFree, IsLogOf, IsPending}
+use Rattle.lr_graph.proofs.Ties.{HasApplied, IsPending}
 
 -- a replica within its step, at which more may be ready than is applied
 pub record IsMid {Value Op : Type 0} (m : Meaning Value Op) (config : Config) (w : Facts Op) (i : ℕ) (state : CausalState Value Op) : Type 0 where
@@ -97,7 +92,7 @@ module _ {Value Op : Type 0} (m : Meaning Value Op) (config : Config) (w : Facts
 
   -- ---- the messages of the answers
 
-  module _ (issued : Cid → LabelledCall Op) (fronts : List FrontState) (x : Option (SentMessage Op)) where
+  module _ (issued : Cid → Option (LabelledCall Op)) (fronts : List FrontState) (x : Option (SentMessage Op)) where
     -- after some lines there are more messages, as many as were posted, and nothing else changed
     pub record HasSent (after : Facts Op) (posted : List (Posted Op)) : Type 0 where
       pub messages : List (SentMessage Op)
@@ -124,7 +119,7 @@ module _ {Value Op : Type 0} (m : Meaning Value Op) (config : Config) (w : Facts
         at_head : (s t : Bool) → s ≡ t
             → HasSent (lines_read x (record w { messages = messages }) (answers m w k i cs)) (posted ++ act_posts (Replica i) (held_acts m now ds))
             → (IsShared m config issued (record w { messages = sent ∷ messages }) fronts (posted ++ post ∷ [])
-                → HasSent (lines_read x (record w { messages = sent ∷ messages }) (answers m w (suc k) i cs)) ((posted ++ post ∷ []) ++ act_posts (Replica i) (held_acts m now ds)))
+            → HasSent (lines_read x (record w { messages = sent ∷ messages }) (answers m w (suc k) i cs)) ((posted ++ post ∷ []) ++ act_posts (Replica i) (held_acts m now ds)))
             → HasSent (lines_read x (record w { messages = messages }) (cond s (answer_line m w k i c ∷ answers m w (suc k) i cs) (answers m w k i cs))) (posted ++ act_posts (Replica i) (cond t (answer_act m now d ∷ held_acts m now ds) (held_acts m now ds)))
         at_head true true q out in_first =
             subst (λ (ps : List (Posted Op)). HasSent (lines_read x (record w { messages = sent ∷ messages }) (answers m w (suc k) i cs)) ps) (append_assoc posted (post ∷ []) (act_posts (Replica i) (held_acts m now ds)))

@@ -1,12 +1,12 @@
 -- No call is executed twice: applying keeps the table's calls apart.
-use Rattle.std.proofs.Common.{◌≡◌, ℕ, zero, suc, Bool, true, false, cond, List, [], ◌∷◌, ◌++◌, Option, Some, None, is_some, length, refl, sym, ap, ◌∙◌, true≢false}
-use Rattle.std.specs.Option.{option_map, option_map_or}
+use Rattle.std.proofs.Common.{◌≡◌, ℕ, zero, suc, Bool, true, false, cond, List, [], ◌∷◌, ◌++◌, Option, Some, None, is_some, length, refl, ◌∙◌, true≢false}
+use Rattle.std.specs.Option.{option_map_or}
 use Rattle.lr_base.specs.Meaning.{Meaning}
 use Rattle.lr_base.specs.Rules.{CausalState, Progress, applied, apply_one, apply_ready, known_of, progress_of, same_cid, stamp_of, take_ready, waiting}
 use Rattle.lr_base.specs.declared.messages.Known.{Known}
 use Rattle.lr_base.specs.declared.messages.LogUpdate.{LogUpdate}
 use Rattle.lr_base.specs.declared.names.Cid.{Cid}
-use Rattle.lr_graph.specs.Closed.{Each, IsAmong}
+use Rattle.lr_graph.specs.Closed.{Each}
 use Rattle.lr_graph.proofs.Members.{each-append}
 use Rattle.lr_graph.proofs.Relation.{HasApartKeys}
 use Rattle.lr_graph.proofs.Tests.{same_cid-sym}

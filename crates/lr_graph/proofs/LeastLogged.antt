@@ -5,14 +5,14 @@ use Rattle.lr_base.specs.Rules.{is_before, same_cid}
 use Rattle.lr_base.specs.declared.messages.LogUpdate.{LogUpdate}
 use Rattle.lr_base.specs.declared.names.Cid.{Cid}
 use Rattle.lr_base.specs.declared.names.Spot.{Spot}
-use Rattle.lr_graph.specs.Closed.{Each, IsAmong, IsSound}
+use Rattle.lr_graph.specs.Closed.{IsAmong, IsSound}
 use Rattle.lr_graph.specs.Graph.{Acceptance, least_spot}
 use Rattle.lr_graph.specs.Sets.{SpotSet}
 use Rattle.lr_graph.proofs.KeptSpots.{IsFirst, least_spot-first, least_spot-lacks}
 use Rattle.lr_graph.proofs.Members.{each-at, find-none, find-some}
 use Rattle.lr_graph.proofs.ReadySets.{apart-same}
 use Rattle.lr_graph.proofs.Tests.{never, same_cid-is, same_cid-self}
-use Rattle.lr_graph.proofs.Ties.{HasUpdateAt, IsAscending, IsLogOf}
+use Rattle.lr_graph.proofs.Ties.{IsAscending, IsLogOf}
 use Rattle.lr_graph.proofs.Values.{has_call-holds}
 
 module _ {Op : Type 0} where
@@ -50,9 +50,9 @@ module _ {Op : Type 0} where
             let a = each-at _ u us log.each found.0 in
             let is : a.0.cid ≡ cid = sym a.1.cid ∙ same_cid-is u.cid cid found.1 in
             ap (least_spot l g) (sym is) ∙ least_spot-first l g a.0 a.1.among a.2 (λ b member here same.
-                let x = each-at _ b l log.all member here in
-                let pass : same_cid x.0.cid cid ≡ true = ap (λ c. same_cid c cid) (logged-cid b member x.0 x.1 x.2 ∙ same ∙ is) ∙ same_cid-self cid in
-                first a.1.spot x.2 (find-first _ us u x.0 log.ascending e x.1 pass))
+            let x = each-at _ b l log.all member here in
+            let pass : same_cid x.0.cid cid ≡ true = ap (λ c. same_cid c cid) (logged-cid b member x.0 x.1 x.2 ∙ same ∙ is) ∙ same_cid-self cid in
+            first a.1.spot x.2 (find-first _ us u x.0 log.ascending e x.1 pass))
             ∙ ap Some (sym a.1.spot)
           where
             first : {s b : Spot} {x : LogUpdate Op} → u.spot ≡ s → x.spot ≡ b → (x ≡ u) ⊎ (is_before u.spot x.spot ≡ true) → IsFirst s b

@@ -1,5 +1,5 @@
 -- What a state line lists of a replica, in the graph and by the rules.
-use Rattle.std.proofs.Common.{◌≡◌, ℕ, suc, Bool, true, false, cond, ◌⊎◌, inl, inr, List, [], ◌∷◌, length, map, refl, sym, ap, ◌∙◌, subst, true≢false}
+use Rattle.std.proofs.Common.{◌≡◌, suc, Bool, true, false, cond, ◌⊎◌, inl, inr, List, [], ◌∷◌, length, map, refl, sym, ap, ◌∙◌, subst, true≢false}
 use Rattle.lr_base.specs.Rules.{is_before}
 use Rattle.lr_base.specs.declared.messages.LogUpdate.{LogUpdate}
 use Rattle.lr_base.specs.declared.names.Spot.{Spot}
@@ -7,7 +7,7 @@ use Rattle.lr_graph.specs.Closed.{Each, HasApartSpots, IsAmong, IsSound}
 use Rattle.lr_graph.specs.Graph.{Acceptance, size_of, spots_of}
 use Rattle.lr_graph.specs.Sets.{SpotSet, put_spot, same_spot}
 use Rattle.lr_graph.proofs.Ascents.{Ascends, same-ascents}
-use Rattle.lr_graph.proofs.Members.{each-at, each-from, each-map}
+use Rattle.lr_graph.proofs.Members.{each-at, each-map}
 use Rattle.lr_graph.proofs.Orders.{before-apart, before-total, before-trans}
 use Rattle.lr_graph.proofs.Tests.{same_spot-self}
 use Rattle.lr_graph.proofs.Ties.{HasUpdateAt, IsAscending, IsLogOf}

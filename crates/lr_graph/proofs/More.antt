@@ -1,7 +1,6 @@
 -- What goes on to hold where one acceptance more was made.
-use Rattle.std.proofs.Common.{◌≡◌, ℕ, ◌<◌, Bool, true, false, cond, not, ◌&&◌, ◌||◌, inl, inr, List, [], ◌∷◌, Option, Some, None, refl, sym, ap, ◌∙◌, subst, true≢false}
-use Rattle.std.specs.List.{list_all, list_any}
-use Rattle.std.specs.Option.{option_map}
+use Rattle.std.proofs.Common.{◌≡◌, ℕ, Bool, true, false, cond, not, ◌&&◌, ◌||◌, inr, List, [], ◌∷◌, refl, sym, ap, ◌∙◌, subst, true≢false}
+use Rattle.std.specs.List.{list_any}
 use Rattle.lr_base.specs.Meaning.{Meaning}
 use Rattle.lr_base.specs.Rules.{CausalState, same_cid}
 use Rattle.lr_base.specs.declared.messages.Call.{Call}
@@ -10,14 +9,14 @@ use Rattle.lr_base.specs.declared.messages.LogUpdate.{LogUpdate}
 use Rattle.lr_base.specs.declared.names.Cid.{Cid}
 use Rattle.lr_base.specs.declared.names.Config.{Config}
 use Rattle.lr_base.specs.declared.names.Spot.{Spot}
-use Rattle.lr_graph.specs.Closed.{Each, IsAmong, IsClosed, IsMade, IsSetOf, IsSound, IsWithin}
+use Rattle.lr_graph.specs.Closed.{Each, IsMade, IsSetOf, IsSound}
 use Rattle.lr_graph.specs.Graph.{Acceptance, Kept, LabelledCall, has_call, is_within, ready, value}
 use Rattle.lr_graph.specs.Sets.{SpotSet, same_spot}
 use Rattle.lr_graph.proofs.Members.{each-at, each-from, each-map}
 use Rattle.lr_graph.proofs.ReadySets.{below-made, ready-holds}
 use Rattle.lr_graph.proofs.Relation.{IsReplicaAt, SameCall, SameHeld, SameList}
 use Rattle.lr_graph.proofs.Tests.{never}
-use Rattle.lr_graph.proofs.Ties.{HasApplied, HasUpdateAt, IsLogOf, IsTableOf, IsUpdateOf, StandsFor}
+use Rattle.lr_graph.proofs.Ties.{HasApplied, IsLogOf, IsTableOf, StandsFor}
 
 -- two lists of one map
 pub same-list : {A B : Type 0} (R Q : A → B → Type 0) → ((a : A) (b : B) → R a b → Q a b) → (xs : List A) (ys : List B) → SameList R xs ys → SameList Q xs ys

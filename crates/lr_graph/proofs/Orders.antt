@@ -1,12 +1,11 @@
 -- The order of spots, and logs in this order.
-use Rattle.std.proofs.Common.{◌≡◌, ℕ, suc, ◌<◌, ◌≤◌, ◌≢◌, Bool, true, false, cond, ◌&&◌, ◌||◌, ◌⊎◌, ◌==◌, inl, inr, nat_lt, List, [], ◌∷◌, refl, sym, ap, ◌∙◌, subst, arith, eqb-true, eq-eqb, le-leb, leb-true, true≢false}
+use Rattle.std.proofs.Common.{◌≡◌, suc, ◌<◌, ◌≤◌, ◌≢◌, Bool, true, false, cond, ◌&&◌, ◌⊎◌, ◌==◌, inl, inr, nat_lt, List, [], ◌∷◌, refl, sym, ap, ◌∙◌, arith, eqb-true, eq-eqb, le-leb, leb-true, true≢false}
 use Rattle.lr_base.specs.Rules.{is_before, put_update}
 use Rattle.lr_base.specs.declared.messages.LogUpdate.{LogUpdate}
 use Rattle.lr_base.specs.declared.names.Spot.{Spot}
 use Rattle.lr_graph.specs.Closed.{Each, IsAmong}
-use Rattle.lr_graph.specs.Sets.{same_spot}
-use Rattle.lr_graph.proofs.Members.{each-at, each-from, each-map}
-use Rattle.lr_graph.proofs.Tests.{and-intro, and-left, and-right, decided, equal-or-not, le-or-lt, or-cases, or-left, or-right, same_spot-self}
+use Rattle.lr_graph.proofs.Members.{each-map}
+use Rattle.lr_graph.proofs.Tests.{and-intro, and-left, and-right, equal-or-not, le-or-lt, or-cases, or-left, or-right}
 use Rattle.lr_graph.proofs.Ties.{IsAscending}
 
 -- the order of spots in words

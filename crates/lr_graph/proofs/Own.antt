@@ -1,37 +1,33 @@
 -- What a message itself does at a replica that goes on as it was.
-use Rattle.std.proofs.Common.{◌≡◌, ◌≢◌, ℕ, zero, suc, ◌+◌, ◌<◌, Bool, true, false, cond, not, ◌&&◌, ◌==◌, ◌⊎◌, inl, inr, List, [], ◌∷◌, ◌++◌, length, Option, Some, None, refl, sym, ap, ◌∙◌, subst, arith, true≢false}
+use Rattle.std.proofs.Common.{◌≡◌, ◌≢◌, ℕ, ◌+◌, ◌<◌, cond, not, ◌&&◌, inl, inr, List, [], ◌∷◌, ◌++◌, length, Option, refl, sym, ap, ◌∙◌, subst, arith}
 use Rattle.std.proofs.lemmas.List.{append-nil}
-use Rattle.lr_base.specs.Fronts.{FrontState}
 use Rattle.lr_base.specs.Meaning.{Meaning}
-use Rattle.lr_base.specs.Rules.{CausalState, held_more}
-use Rattle.lr_base.specs.Steps.{Ending, answer_act, done_act, query_held, query_taken, refusing}
+use Rattle.lr_base.specs.Rules.{CausalState}
+use Rattle.lr_base.specs.Steps.{answer_act, done_act, refusing}
 use Rattle.lr_base.specs.declared.acts.Posted.{Posted}
-use Rattle.lr_base.specs.declared.events.Outcome.{Outcome}
-use Rattle.lr_base.specs.declared.events.Outcome.TheVariants.{Hold, Refuse, Send}
+use Rattle.lr_base.specs.declared.events.Outcome.TheVariants.{Refuse, Send}
 use Rattle.lr_base.specs.declared.events.Refusal.{Refusal}
-use Rattle.lr_base.specs.declared.events.Refusal.TheVariants.{Again, FullHeld}
+use Rattle.lr_base.specs.declared.events.Refusal.TheVariants.{Again}
 use Rattle.lr_base.specs.declared.events.Sent.TheVariants.{Answer as AnswerSent, Done as DoneSent}
 use Rattle.lr_base.specs.declared.messages.Call.{Call}
 use Rattle.lr_base.specs.declared.messages.Message.TheVariants.{Answer, Done}
-use Rattle.lr_base.specs.declared.names.Actor.{Actor}
 use Rattle.lr_base.specs.declared.names.Actor.TheVariants.{Client, Replica}
 use Rattle.lr_base.specs.declared.names.Cid.{Cid}
 use Rattle.lr_base.specs.declared.names.Config.{Config}
 use Rattle.lr_base.specs.declared.names.Spot.{Spot}
-use Rattle.lr_graph.specs.After.{lines_read}
 use Rattle.lr_graph.specs.Closed.{Each, HasApartSpots, IsAmong}
-use Rattle.lr_graph.specs.Graph.{Acceptance, AnswerReply, DoneReply, Facts, LabelledCall, QueryCopy, SentMessage, below_of, is_within, ready, value}
-use Rattle.lr_graph.specs.Legal.{answer_line, done_line, logged, next_number, query_lines}
+use Rattle.lr_graph.specs.Graph.{Acceptance, AnswerReply, DoneReply, Facts, LabelledCall, SentMessage, below_of, ready}
+use Rattle.lr_graph.specs.Legal.{answer_line, done_line, logged, next_number}
 use Rattle.lr_graph.specs.Names.{Names}
 use Rattle.lr_graph.specs.Runs.{RunState}
-use Rattle.lr_graph.specs.Sets.{SpotSet, put_at, same_spot}
+use Rattle.lr_graph.specs.Sets.{SpotSet, same_spot}
 use Rattle.lr_graph.proofs.Accepting.{unchanged-pending}
-use Rattle.lr_graph.proofs.Central.{below-set, stamp_le-within}
+use Rattle.lr_graph.proofs.Central.{below-set}
 use Rattle.lr_graph.proofs.Ending.{IsMid, ready-set}
 use Rattle.lr_graph.proofs.Members.{each-at}
 use Rattle.lr_graph.proofs.Posting.{message-sent, posting}
-use Rattle.lr_graph.proofs.Relation.{IsReplicaAt, IsShared, IsTied, SameCall, SameHeld, SameList, SameMessage, calls_in}
-use Rattle.lr_graph.proofs.Stepping.{IsOwnPart, put-other, put-same}
+use Rattle.lr_graph.proofs.Relation.{IsReplicaAt, IsShared, IsTied, SameCall}
+use Rattle.lr_graph.proofs.Stepping.{IsOwnPart}
 use Rattle.lr_graph.proofs.Tests.{same_spot-self}
 
 -- what is below the acceptance of a spot
@@ -54,7 +50,7 @@ unchanged-mid m config w i state sound ok = record {
   all_logged = λ several s. ap (λ t. not t && w.received i s) several;
 }
 
-module _ {Value Op : Type 0} (m : Meaning Value Op) (config : Config) (issued : Cid → LabelledCall Op) (w : Facts Op) (v : RunState Value Op) (shared : IsShared m config issued w v.fronts v.posted)
+module _ {Value Op : Type 0} (m : Meaning Value Op) (config : Config) (issued : Cid → Option (LabelledCall Op)) (w : Facts Op) (v : RunState Value Op) (shared : IsShared m config issued w v.fronts v.posted)
     (i : ℕ) (state : CausalState Value Op) (ok : IsReplicaAt m config w.accepted (w.received i) (logged config w i) (w.kept i) (w.held i) state)
     (others : (j : ℕ) → j ≢ i → j < config.replicas → IsTied m config w v.replicas j) (x : Option (SentMessage Op)) where
   same_posts : IsShared m config issued w v.fronts (v.posted ++ [])

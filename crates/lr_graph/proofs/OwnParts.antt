@@ -1,7 +1,7 @@
 -- What a message itself does at a replica is the same in the graph and by the rules.
-use Rattle.std.proofs.Common.{◌≡◌, ◌≢◌, ℕ, zero, suc, ◌+◌, ◌<◌, ◌^◌, Bool, true, false, cond, not, ◌==◌, nat_lt, find, List, [], ◌∷◌, length, Option, Some, None, refl, sym, ap, ◌∙◌, subst, arith, true≢false, leb-true}
+use Rattle.std.proofs.Common.{◌≡◌, ◌≢◌, ℕ, suc, ◌+◌, ◌<◌, ◌^◌, Bool, true, false, cond, nat_lt, find, List, [], ◌∷◌, length, Option, Some, None, refl, sym, ap, ◌∙◌, subst, arith, true≢false, leb-true}
 use Rattle.std.specs.Option.{option_map}
-use Rattle.lr_base.specs.Kinds.{IsUpdate}
+use Rattle.lr_base.specs.Kinds.{IsPlain, IsUpdate}
 use Rattle.lr_base.specs.Meaning.{Meaning}
 use Rattle.lr_base.specs.Rules.{CausalState, fresh_of, fresh_when, is_late, known_of, same_cid, stamp_of, taken_before}
 use Rattle.lr_base.specs.Stamps.{part, stamp_le}
@@ -13,7 +13,6 @@ use Rattle.lr_base.specs.declared.messages.Call.{Call}
 use Rattle.lr_base.specs.declared.messages.Fresh.{Fresh}
 use Rattle.lr_base.specs.declared.messages.Fresh.TheVariants.{Late}
 use Rattle.lr_base.specs.declared.messages.Known.{Known}
-use Rattle.lr_base.specs.declared.messages.LogAck.{LogAck}
 use Rattle.lr_base.specs.declared.messages.LogUpdate.{LogUpdate}
 use Rattle.lr_base.specs.declared.messages.Message.{Message}
 use Rattle.lr_base.specs.declared.messages.Message.TheVariants.{Answer, Done, Query, Update}
@@ -22,8 +21,7 @@ use Rattle.lr_base.specs.declared.names.Actor.TheVariants.{Replica}
 use Rattle.lr_base.specs.declared.names.Cid.{Cid}
 use Rattle.lr_base.specs.declared.names.Config.{Config}
 use Rattle.lr_base.specs.declared.names.Spot.{Spot}
-use Rattle.lr_graph.specs.Closed.{Each, IsAmong}
-use Rattle.lr_graph.specs.Graph.{Acceptance, AnswerReply, Blank, Carried, DoneReply, Facts, LabelledCall, QueryCopy, SentMessage, UpdateCopy, is_within, kept_spot, least_spot, made, size_of}
+use Rattle.lr_graph.specs.Graph.{AnswerReply, Blank, Carried, DoneReply, Facts, LabelledCall, QueryCopy, SentMessage, UpdateCopy, is_within, kept_spot, least_spot, made, size_of}
 use Rattle.lr_graph.specs.Legal.{accept_lines, done_line, logged, message_lines, query_lines, taken_at, update_lines}
 use Rattle.lr_graph.specs.Names.{spot_at}
 use Rattle.lr_graph.specs.Runs.{RunState}
@@ -34,7 +32,7 @@ use Rattle.lr_graph.proofs.Members.{each-at, find-some}
 use Rattle.lr_graph.proofs.Own.{own-again, own-answered, own-nothing, own-refused}
 use Rattle.lr_graph.proofs.ReadySets.{update-stamp}
 use Rattle.lr_graph.proofs.Receiving.{own-accepted, own-held, spot}
-use Rattle.lr_graph.proofs.Relation.{IsIssued, IsPlain, IsReplicaAt, IsShared, IsTied, SameCall, SameCarried, SameHeld, SameList, calls_in}
+use Rattle.lr_graph.proofs.Relation.{IsIssued, IsReplicaAt, IsShared, IsTied, SameCall, SameCarried, SameList, calls_in}
 use Rattle.lr_graph.proofs.Stepping.{IsOwnPart}
 use Rattle.lr_graph.proofs.Tallying.{made-count}
 use Rattle.lr_graph.proofs.Tests.{never}
@@ -49,7 +47,7 @@ same-length R (x ∷ xs) (y ∷ ys) h = ap suc (same-length R xs ys h.1)
 in-time : (n : ℕ) → nat_lt n 0 ≡ false
 in-time n = never _ (λ e. let h = leb-true (suc n) 0 e in absurd (omega arith))
 
-module _ {Value Op : Type 0} (m : Meaning Value Op) (config : Config) (issued : Cid → LabelledCall Op) (w : Facts Op) (v : RunState Value Op) (shared : IsShared m config issued w v.fronts v.posted)
+module _ {Value Op : Type 0} (m : Meaning Value Op) (config : Config) (issued : Cid → Option (LabelledCall Op)) (w : Facts Op) (v : RunState Value Op) (shared : IsShared m config issued w v.fronts v.posted)
     (i : ℕ) (here : i < config.replicas) (state : CausalState Value Op) (ok : IsReplicaAt m config w.accepted (w.received i) (logged config w i) (w.kept i) (w.held i) state)
     (others : (j : ℕ) → j ≢ i → j < config.replicas → IsTied m config w v.replicas j) (number : ℕ) (from : Actor) where
   abbrev came : Carried Op → Option (SentMessage Op)
@@ -165,7 +163,7 @@ module _ {Value Op : Type 0} (m : Meaning Value Op) (config : Config) (issued : 
       → IsOwnPart m config issued w v i (came what) (message_lines m config w (Replica i) what) (own_taken m config i state message)
   own-part (UpdateCopy c t) (Update d time) h = own-update c d h.0 h.2 h.3 h.4 t time
   own-part (QueryCopy c) (Query d) h = own-query c d h.0 h.1
-  own-part (DoneReply cid names) (Done other spot stamp) h = own-nothing m config issued w v shared i state ok others (came (DoneReply cid names))
+  own-part (DoneReply cid names) (Done other at stamp) h = own-nothing m config issued w v shared i state ok others (came (DoneReply cid names))
   own-part (AnswerReply cid names) (Answer other text stamp) h = own-nothing m config issued w v shared i state ok others (came (AnswerReply cid names))
   own-part (UpdateCopy e t) (Query f) h = absurd h
   own-part (UpdateCopy e t) (Done other at stamp) h = absurd h

@@ -1,7 +1,7 @@
 -- Messages that are sent, and the lines that say so.
-use Rattle.std.proofs.Common.{◌≡◌, ◌≢◌, ℕ, zero, suc, ◌+◌, ◌<◌, ◌≤◌, Bool, true, false, cond, ◌==◌, ◌⊎◌, inl, inr, List, [], ◌∷◌, ◌++◌, length, find, Option, Some, None, refl, sym, ap, ◌∙◌, subst, arith, true≢false, eqb-true, eq-eqb}
+use Rattle.std.proofs.Common.{◌≡◌, ◌≢◌, ℕ, zero, suc, ◌+◌, ◌<◌, ◌≤◌, Bool, false, cond, ◌==◌, ◌⊎◌, inl, inr, List, [], ◌∷◌, ◌++◌, length, find, Option, Some, refl, sym, ap, ◌∙◌, subst, arith, eqb-true, eq-eqb}
 use Rattle.std.specs.List.{slice_get}
-use Rattle.std.proofs.lemmas.List.{append_assoc, length-append}
+use Rattle.std.proofs.lemmas.List.{length-append}
 use Rattle.std.proofs.lemmas.Option.{slice_get_past}
 use Rattle.lr_base.specs.Fronts.{FrontState}
 use Rattle.lr_base.specs.Meaning.{Meaning}
@@ -40,7 +40,7 @@ act_posts-append from [] ys = refl
 act_posts-append from (Say line ∷ xs) ys = act_posts-append from xs ys
 act_posts-append {Op} from (Send to message ∷ xs) ys = ap (λ (ps : List (Posted Op)). posting from to message ∷ ps) (act_posts-append from xs ys)
 
-module _ {Value Op : Type 0} (m : Meaning Value Op) (config : Config) (issued : Cid → LabelledCall Op) (w : Facts Op) (fronts : List FrontState) (posted : List (Posted Op)) (shared : IsShared m config issued w fronts posted) where
+module _ {Value Op : Type 0} (m : Meaning Value Op) (config : Config) (issued : Cid → Option (LabelledCall Op)) (w : Facts Op) (fronts : List FrontState) (posted : List (Posted Op)) (shared : IsShared m config issued w fronts posted) where
   abbrev Same : Option (SentMessage Op) → Option (Posted Op) → Type 0
   Same = SameOption (SameMessage m config w.accepted issued (calls_in w))
 

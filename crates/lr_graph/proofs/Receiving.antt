@@ -1,15 +1,13 @@
 -- What a message itself does at a replica: a query that is held, and an update that is accepted.
-use Rattle.std.proofs.Common.{◌≡◌, ◌≢◌, ℕ, zero, suc, ◌+◌, ◌<◌, ◌≤◌, Bool, true, false, cond, not, ◌&&◌, ◌||◌, ◌==◌, ◌⊎◌, inl, inr, find, List, [], ◌∷◌, ◌++◌, length, Option, Some, None, refl, sym, ap, ◌∙◌, subst, arith, true≢false, eqb-true}
+use Rattle.std.proofs.Common.{◌≡◌, ◌≢◌, ℕ, ◌+◌, ◌<◌, Bool, true, false, cond, not, ◌&&◌, ◌||◌, ◌==◌, ◌⊎◌, inl, inr, find, List, [], ◌∷◌, ◌++◌, length, Option, Some, None, refl, sym, ap, ◌∙◌, subst, arith, eqb-true}
 use Rattle.std.proofs.lemmas.List.{append-nil}
-use Rattle.lr_base.specs.Fronts.{FrontState}
-use Rattle.lr_base.specs.Kinds.{IsUpdate}
+use Rattle.lr_base.specs.Kinds.{IsPlain, IsUpdate}
 use Rattle.lr_base.specs.Meaning.{Meaning}
 use Rattle.lr_base.specs.Rules.{CausalState, accepted, held_more, stamp_of, update_of_call}
 use Rattle.lr_base.specs.Stamps.{part}
-use Rattle.lr_base.specs.Steps.{Ending, done_act}
+use Rattle.lr_base.specs.Steps.{done_act}
 use Rattle.lr_base.specs.declared.acts.Act.TheVariants.{Say}
 use Rattle.lr_base.specs.declared.acts.Posted.{Posted}
-use Rattle.lr_base.specs.declared.events.Outcome.{Outcome}
 use Rattle.lr_base.specs.declared.events.Outcome.TheVariants.{Accept, Hold, Send}
 use Rattle.lr_base.specs.declared.events.Sent.TheVariants.{Done as DoneSent}
 use Rattle.lr_base.specs.declared.messages.Call.{Call}
@@ -20,8 +18,8 @@ use Rattle.lr_base.specs.declared.names.Actor.TheVariants.{Client, Replica}
 use Rattle.lr_base.specs.declared.names.Cid.{Cid}
 use Rattle.lr_base.specs.declared.names.Config.{Config}
 use Rattle.lr_base.specs.declared.names.Spot.{Spot}
-use Rattle.lr_graph.specs.Closed.{Each, IsAmong, IsMade, IsSetOf, IsSound, causes}
-use Rattle.lr_graph.specs.Graph.{Acceptance, AnswerReply, Blank, Carried, DoneReply, Facts, FrontFacts, LabelledCall, QueryCopy, SentMessage, UpdateCopy, below_of, ready}
+use Rattle.lr_graph.specs.Closed.{IsAmong, IsMade, IsSetOf, IsSound}
+use Rattle.lr_graph.specs.Graph.{Acceptance, AnswerReply, Blank, Carried, DoneReply, Facts, LabelledCall, QueryCopy, SentMessage, UpdateCopy, below_of, ready}
 use Rattle.lr_graph.specs.Legal.{done_line, logged, next_number}
 use Rattle.lr_graph.specs.Names.{Names, spot_at}
 use Rattle.lr_graph.specs.Runs.{RunState, message_at}
@@ -29,15 +27,14 @@ use Rattle.lr_graph.specs.Sets.{SpotSet, only, put_at, same_spot, ◌∪◌}
 use Rattle.lr_graph.proofs.Accepting.{accept-pending, made_at, new-causes, new-stands, next-fresh, sound-more}
 use Rattle.lr_graph.proofs.Central.{below-set}
 use Rattle.lr_graph.proofs.Ending.{IsMid}
-use Rattle.lr_graph.proofs.Members.{each-at, each-from, each-map}
 use Rattle.lr_graph.proofs.More.{call-more, held-more, not-in, replica-more, set-more}
 use Rattle.lr_graph.proofs.Own.{unchanged-mid}
 use Rattle.lr_graph.proofs.Posting.{message-sent, posting}
 use Rattle.lr_graph.proofs.ReadySets.{update-stamp}
-use Rattle.lr_graph.proofs.Relation.{HasFront, IsAcceptance, IsIssued, IsPlain, IsReplicaAt, IsShared, IsTied, SameCall, SameCarried, SameFront, SameHeld, SameList, SameMessage, SameOption, calls_in}
+use Rattle.lr_graph.proofs.Relation.{IsAcceptance, IsIssued, IsReplicaAt, IsShared, IsTied, SameCall, SameCarried, SameHeld, SameList, SameMessage, SameOption, calls_in}
 use Rattle.lr_graph.proofs.Stepping.{IsOwnPart, put-other, put-same}
-use Rattle.lr_graph.proofs.Tests.{equal-or-not, never, or-cases, or-left, or-right, same_spot-is, same_spot-self}
-use Rattle.lr_graph.proofs.Ties.{HasApplied, IsPending}
+use Rattle.lr_graph.proofs.Tests.{or-cases, or-left, or-right, same_spot-is, same_spot-self}
+use Rattle.lr_graph.proofs.Ties.{IsPending}
 
 -- ---- a query is held
 
@@ -48,7 +45,7 @@ same-held-behind clients l [] (e ∷ ds) c d h k = absurd h
 same-held-behind clients l (b ∷ cs) [] c d h k = absurd h
 same-held-behind clients l (b ∷ cs) (e ∷ ds) c d h k = (h.0, same-held-behind clients l cs ds c d h.1 k)
 
-module _ {Value Op : Type 0} (m : Meaning Value Op) (config : Config) (issued : Cid → LabelledCall Op) (w : Facts Op) (v : RunState Value Op) (shared : IsShared m config issued w v.fronts v.posted)
+module _ {Value Op : Type 0} (m : Meaning Value Op) (config : Config) (issued : Cid → Option (LabelledCall Op)) (w : Facts Op) (v : RunState Value Op) (shared : IsShared m config issued w v.fronts v.posted)
     (i : ℕ) (here : i < config.replicas) (state : CausalState Value Op) (ok : IsReplicaAt m config w.accepted (w.received i) (logged config w i) (w.kept i) (w.held i) state)
     (others : (j : ℕ) → j ≢ i → j < config.replicas → IsTied m config w v.replicas j) (number : ℕ) (from : Actor) where
   abbrev asked : LabelledCall Op → Option (SentMessage Op)
@@ -59,27 +56,42 @@ module _ {Value Op : Type 0} (m : Meaning Value Op) (config : Config) (issued : 
   own-held c d same client = record {
     lines = λ k. Hold (same.cid k) ∷ [];
     shared = let s = shared in record {
-      sound = s.sound; each = s.each; own = s.own; exist = s.exist; fronts_are = s.fronts_are; opened = s.opened;
+      sound = s.sound;
+      each = s.each;
+      own = s.own;
+      exist = s.exist;
+      fronts_are = s.fronts_are;
+      opened = s.opened;
       count = s.count ∙ ap length (sym (append-nil v.posted));
       messages = subst (λ (ps : List (Posted Op)). (n : ℕ) → SameOption (SameMessage m config w.accepted issued (calls_in w)) (find (λ y. y.number == n) w.messages) (message_at ps n)) (sym (append-nil v.posted)) s.messages;
     };
     mid = let mid = unchanged-mid m config w i state shared.sound ok in record {
       logs = mid.logs;
       done = mid.done;
-      pending = record { counted = mid.pending.counted; log = mid.pending.log; received = mid.pending.received; covered = mid.pending.covered; within = mid.pending.within; flagged = mid.pending.flagged;
-        applied = record { names = mid.pending.applied.names; value_is = mid.pending.applied.value_is; table = mid.pending.applied.table } };
+      pending = record {
+        counted = mid.pending.counted;
+        log = mid.pending.log;
+        received = mid.pending.received;
+        covered = mid.pending.covered;
+        within = mid.pending.within;
+        flagged = mid.pending.flagged;
+        applied = record { names = mid.pending.applied.names; value_is = mid.pending.applied.value_is; table = mid.pending.applied.table };
+      };
       still = record { clock = mid.still.clock; acks = mid.still.acks; imm = mid.still.imm; parts = mid.still.parts; keys = mid.still.keys };
       held_are = subst (λ (cs : List (LabelledCall Op)). SameList (SameHeld config.clients w.accepted) cs (state.held ++ d ∷ [])) (sym (put-same i (w.held i ++ c ∷ []) w.held))
           (same-held-behind config.clients w.accepted (w.held i) state.held c d ok.held_are (record { call = same; client = client }));
       all_logged = mid.all_logged;
     };
-    others = λ j apart within. (let old = others j apart within in (old.0, old.1,
-        subst (λ (cs : List (LabelledCall Op)). IsReplicaAt m config w.accepted (w.received j) (logged config w j) (w.kept j) cs old.0) (sym (put-other i j (w.held i ++ c ∷ []) w.held apart)) old.2));
+    others = λ j apart within. (let old = others j apart within in (
+      old.0,
+      old.1,
+      subst (λ (cs : List (LabelledCall Op)). IsReplicaAt m config w.accepted (w.received j) (logged config w j) (w.kept j) cs old.0) (sym (put-other i j (w.held i ++ c ∷ []) w.held apart)) old.2,
+    ));
   }
 
 -- ---- an update is accepted
 
-module _ {Value Op : Type 0} (m : Meaning Value Op) (config : Config) (issued : Cid → LabelledCall Op) (w : Facts Op) (v : RunState Value Op) (shared : IsShared m config issued w v.fronts v.posted)
+module _ {Value Op : Type 0} (m : Meaning Value Op) (config : Config) (issued : Cid → Option (LabelledCall Op)) (w : Facts Op) (v : RunState Value Op) (shared : IsShared m config issued w v.fronts v.posted)
     (i : ℕ) (here : i < config.replicas) (state : CausalState Value Op) (ok : IsReplicaAt m config w.accepted (w.received i) (logged config w i) (w.kept i) (w.held i) state)
     (others : (j : ℕ) → j ≢ i → j < config.replicas → IsTied m config w v.replicas j)
     (c : LabelledCall Op) (d : Call Op) (same : SameCall w.accepted c d) (is_issued : IsIssued config.clients issued (calls_in w) c) (update : IsUpdate (m.kind c.op)) (plain : IsPlain (m.kind c.op)) where
@@ -109,8 +121,10 @@ module _ {Value Op : Type 0} (m : Meaning Value Op) (config : Config) (issued : 
 
   new_one : IsAcceptance m config issued (calls_in w) a
   new_one = record {
-    op = sym (ap (λ (x : LabelledCall Op). x.op) is_issued.is);
-    label = λ s. new-causes l shared.sound spot fresh some c.cid c.op c.label same.set s ∙ ap (λ (x : LabelledCall Op). x.label s) (sym is_issued.is);
+    call = c;
+    is = is_issued.is;
+    op = refl;
+    label = new-causes l shared.sound spot fresh some c.cid c.op c.label same.set;
     number = is_issued.number;
     client = is_issued.client;
     place = here;
@@ -162,10 +176,18 @@ module _ {Value Op : Type 0} (m : Meaning Value Op) (config : Config) (issued : 
     each = (new_one, shared.each);
     own = own_all;
     exist = exist_all;
-    fronts_are = λ client within. (let f = shared.fronts_are client within in (f.0, f.1, record {
-      client_is = f.2.client_is; calls = f.2.calls; clock = f.2.clock; open_call = f.2.open_call; names = f.2.names;
-      set = set-more l a fresh shared.sound (w.front client).label f.2.set;
-    }));
+    fronts_are = λ client within. (let f = shared.fronts_are client within in (
+      f.0,
+      f.1,
+      record {
+        client_is = f.2.client_is;
+        calls = f.2.calls;
+        clock = f.2.clock;
+        open_call = f.2.open_call;
+        names = f.2.names;
+        set = set-more l a fresh shared.sound (w.front client).label f.2.set;
+      },
+    ));
     opened = shared.opened;
     count = shared.count;
     messages = λ n. option-more (find (λ y. y.number == n) w.messages) (message_at v.posted n) (shared.messages n);
@@ -228,14 +250,15 @@ module _ {Value Op : Type 0} (m : Meaning Value Op) (config : Config) (issued : 
   others_stay j apart within =
       let old = others j apart within in
       let lacks : w.received j spot ≡ false = not-in l a fresh (w.received j) (shared.exist j) in (
-        old.0, old.1,
+        old.0,
+        old.1,
         subst (λ (r : SpotSet). IsReplicaAt m config (a ∷ l) r (λ s. not (config.replicas == 1) && r s) (w.kept j) (w.held j) old.0) (sym (put-other i j (w.received i ∪ only spot) w.received apart))
-        (replica-more l a fresh m config shared.sound (w.received j) (logged config w j) (w.kept j) (w.held j) old.0 lacks old.2),
+            (replica-more l a fresh m config shared.sound (w.received j) (logged config w j) (w.kept j) (w.held j) old.0 lacks old.2),
       )
 
   pub own-accepted : (number : ℕ) (from : Actor) (time : ℕ)
       → IsOwnPart m config issued w v i (Some (record { number = number; from = from; to = Replica i; what = UpdateCopy c time })) (Accept spot c.cid ∷ done_line w i c.cid spot ∷ [])
-          (record { state = after_it; acts = Say (Accept spot d.cid) ∷ done_act d.cid spot stamp ∷ [] })
+      (record { state = after_it; acts = Say (Accept spot d.cid) ∷ done_act d.cid spot stamp ∷ [] })
   own-accepted number from time = record {
     lines = λ k. Accept spot (same.cid k) ∷ Send (next_is k) (Replica i) (Client (same.cid k).client) (DoneSent (same.cid k) spot) ∷ [];
     shared = shared_sent;

@@ -1,15 +1,14 @@
 -- How a run by the rules and the facts of its history belong together.
-use Rattle.std.proofs.Common.{◌≡◌, ◌≢◌, ◌<◌, ◌≤◌, ◌+◌, ◌==◌, ◌^◌, ℕ, Bool, true, false, List, [], ◌∷◌, length, find, Option, Some, None}
+use Rattle.std.proofs.Common.{◌≡◌, ◌<◌, ◌≤◌, ◌+◌, ◌==◌, ℕ, true, false, List, [], ◌∷◌, length, find, Option, Some, None}
 use Rattle.std.specs.List.{slice_get}
 use Rattle.std.specs.Option.{option_map}
 use Rattle.lr_base.specs.Fronts.{FrontState}
-use Rattle.lr_base.specs.Kinds.{IsUpdate, is_forced, is_immediate}
+use Rattle.lr_base.specs.Kinds.{IsPlain, IsUpdate}
 use Rattle.lr_base.specs.Meaning.{Meaning}
 use Rattle.lr_base.specs.Replicas.{ReplicaState}
-use Rattle.lr_base.specs.Rules.{CausalState, known_of, same_cid}
+use Rattle.lr_base.specs.Rules.{CausalState, same_cid}
 use Rattle.lr_base.specs.Stamps.{part}
 use Rattle.lr_base.specs.declared.acts.Posted.{Posted}
-use Rattle.lr_base.specs.declared.lr_service.Kind.{Kind}
 use Rattle.lr_base.specs.declared.messages.Call.{Call}
 use Rattle.lr_base.specs.declared.messages.Known.{Known}
 use Rattle.lr_base.specs.declared.messages.Message.{Message}
@@ -20,12 +19,12 @@ use Rattle.lr_base.specs.declared.names.Cid.{Cid}
 use Rattle.lr_base.specs.declared.names.Config.{Config}
 use Rattle.lr_base.specs.declared.names.Spot.{Spot}
 use Rattle.lr_graph.specs.Closed.{Each, IsAmong, IsMade, IsSetOf, IsSound, causes}
-use Rattle.lr_graph.specs.Graph.{Acceptance, AnswerReply, Blank, Carried, DoneReply, Facts, FrontFacts, Kept, LabelledCall, QueryCopy, SentMessage, UpdateCopy, ready}
+use Rattle.lr_graph.specs.Graph.{Acceptance, AnswerReply, Carried, DoneReply, Facts, FrontFacts, Kept, LabelledCall, QueryCopy, SentMessage, UpdateCopy, ready}
 use Rattle.lr_graph.specs.Legal.{logged}
 use Rattle.lr_graph.specs.Names.{IsCounted, Names}
 use Rattle.lr_graph.specs.Runs.{RunState, message_at}
 use Rattle.lr_graph.specs.Sets.{SpotSet}
-use Rattle.lr_graph.proofs.Ties.{HasApplied, IsLogOf, IsPending}
+use Rattle.lr_graph.proofs.Ties.{HasApplied, IsLogOf}
 
 -- ---- one thing beside another
 
@@ -41,11 +40,6 @@ SameList R _ _ = ⊥
 
 -- ---- calls and messages
 
--- an operation of this kind is ordered by labels alone
-pub record IsPlain (kind : Kind) : Type 0 where
-  pub not_forced : is_forced kind ≡ false
-  pub not_immediate : is_immediate kind ≡ false
-
 -- a call by the rules is this call of the graph
 pub record SameCall {Op : Type 0} (l : List (Acceptance Op)) (c : LabelledCall Op) (d : Call Op) : Type 0 where
   pub cid : c.cid ≡ d.cid
@@ -54,13 +48,13 @@ pub record SameCall {Op : Type 0} (l : List (Acceptance Op)) (c : LabelledCall O
   pub set : IsSetOf l c.label
 
 -- this is the call that was issued under its name, by a client that there is
-pub record IsIssued {Op : Type 0} (clients : ℕ) (issued : Cid → LabelledCall Op) (calls : ℕ → ℕ) (c : LabelledCall Op) : Type 0 where
-  pub is : issued c.cid ≡ c
+pub record IsIssued {Op : Type 0} (clients : ℕ) (issued : Cid → Option (LabelledCall Op)) (calls : ℕ → ℕ) (c : LabelledCall Op) : Type 0 where
+  pub is : issued c.cid ≡ Some c
   pub number : c.cid.seq ≤ calls c.cid.client
   pub client : c.cid.client < clients
 
 -- a message of the rules carries what this one of the graph does
-abbrev pub SameCarried : {Value Op : Type 0} → Meaning Value Op → ℕ → List (Acceptance Op) → (Cid → LabelledCall Op) → (ℕ → ℕ) → Carried Op → Message Op → Type 0
+abbrev pub SameCarried : {Value Op : Type 0} → Meaning Value Op → ℕ → List (Acceptance Op) → (Cid → Option (LabelledCall Op)) → (ℕ → ℕ) → Carried Op → Message Op → Type 0
 SameCarried m clients l issued calls (UpdateCopy c t) (Update d time) = SameCall l c d × (t ≡ time) × IsIssued clients issued calls c × IsUpdate (m.kind c.op) × IsPlain (m.kind c.op)
 SameCarried m clients l issued calls (QueryCopy c) (Query d) = SameCall l c d × IsIssued clients issued calls c
 SameCarried m clients l issued calls (DoneReply cid names) (Done other spot stamp) = (cid ≡ other) × Names stamp names × IsSetOf l names
@@ -73,7 +67,7 @@ IsThere config (Client client) = client < config.clients
 IsThere config (Replica replica) = replica < config.replicas
 
 -- a message of the rules is this one of the graph
-pub record SameMessage {Value Op : Type 0} (m : Meaning Value Op) (config : Config) (l : List (Acceptance Op)) (issued : Cid → LabelledCall Op) (calls : ℕ → ℕ) (x : SentMessage Op) (p : Posted Op) : Type 0 where
+pub record SameMessage {Value Op : Type 0} (m : Meaning Value Op) (config : Config) (l : List (Acceptance Op)) (issued : Cid → Option (LabelledCall Op)) (calls : ℕ → ℕ) (x : SentMessage Op) (p : Posted Op) : Type 0 where
   pub to : x.to ≡ p.to
   pub there : IsThere config x.to
   pub what : SameCarried m config.clients l issued calls x.what p.message
@@ -81,7 +75,7 @@ pub record SameMessage {Value Op : Type 0} (m : Meaning Value Op) (config : Conf
 -- ---- front ends
 
 -- an open call is one that was issued
-abbrev pub IsOpen : {Op : Type 0} → ℕ → (Cid → LabelledCall Op) → (ℕ → ℕ) → Option (LabelledCall Op) → Type 0
+abbrev pub IsOpen : {Op : Type 0} → ℕ → (Cid → Option (LabelledCall Op)) → (ℕ → ℕ) → Option (LabelledCall Op) → Type 0
 IsOpen clients issued calls None = Unit {0}
 IsOpen clients issued calls (Some c) = IsIssued clients issued calls c
 
@@ -101,9 +95,11 @@ HasFront l fronts client a = (f : FrontState) × (slice_get fronts client ≡ So
 -- ---- acceptances
 
 -- an acceptance is that of an issued call, at a replica that there is
-pub record IsAcceptance {Value Op : Type 0} (m : Meaning Value Op) (config : Config) (issued : Cid → LabelledCall Op) (calls : ℕ → ℕ) (a : Acceptance Op) : Type 0 where
-  pub op : a.op ≡ (issued a.cid).op
-  pub label : (s : Spot) → causes a s ≡ (issued a.cid).label s
+pub record IsAcceptance {Value Op : Type 0} (m : Meaning Value Op) (config : Config) (issued : Cid → Option (LabelledCall Op)) (calls : ℕ → ℕ) (a : Acceptance Op) : Type 0 where
+  pub call : LabelledCall Op
+  pub is : issued a.cid ≡ Some call
+  pub op : a.op ≡ call.op
+  pub label : (s : Spot) → causes a s ≡ call.label s
   pub number : a.cid.seq ≤ calls a.cid.client
   pub client : a.cid.client < config.clients
   pub place : a.spot.place < config.replicas
@@ -115,7 +111,7 @@ abbrev pub calls_in : {Op : Type 0} → Facts Op → ℕ → ℕ
 calls_in w client = (w.front client).calls
 
 -- what acceptances, front ends and messages keep, whatever a replica is at
-pub record IsShared {Value Op : Type 0} (m : Meaning Value Op) (config : Config) (issued : Cid → LabelledCall Op) (w : Facts Op) (fronts : List FrontState) (posted : List (Posted Op)) : Type 0 where
+pub record IsShared {Value Op : Type 0} (m : Meaning Value Op) (config : Config) (issued : Cid → Option (LabelledCall Op)) (w : Facts Op) (fronts : List FrontState) (posted : List (Posted Op)) : Type 0 where
   pub sound : IsSound w.accepted
   pub each : Each (IsAcceptance m config issued (calls_in w)) w.accepted
   pub own : (a : Acceptance Op) → IsAmong a w.accepted → w.received a.spot.place a.spot ≡ true
@@ -171,6 +167,6 @@ IsTied {Value} {Op} m config w replicas i =
 
 -- a run and the facts of its history
 pub record IsSame {Value Op : Type 0} (m : Meaning Value Op) (config : Config) (w : Facts Op) (v : RunState Value Op) : Type 0 where
-  pub issued : Cid → LabelledCall Op
+  pub issued : Cid → Option (LabelledCall Op)
   pub shared : IsShared m config issued w v.fronts v.posted
   pub replicas : (i : ℕ) → i < config.replicas → IsTied m config w v.replicas i

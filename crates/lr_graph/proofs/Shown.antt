@@ -1,12 +1,9 @@
 -- The state line of a replica, and whether it may log and number one more.
-use Rattle.std.proofs.Common.{◌≡◌, ℕ, suc, ◌+◌, ◌<◌, Bool, true, ◌==◌, List, [], ◌∷◌, length, map, refl, sym, ap, ◌∙◌, arith}
+use Rattle.std.proofs.Common.{◌≡◌, ℕ, suc, true, List, [], ◌∷◌, map, refl, sym, ◌∙◌, arith}
 use Rattle.lr_base.specs.Meaning.{Meaning}
 use Rattle.lr_base.specs.Replicas.{ReplicaState, state_line_of as line_by_rules}
-use Rattle.lr_base.specs.Rules.{CausalState}
-use Rattle.lr_base.specs.declared.events.StateLine.{StateLine}
 use Rattle.lr_base.specs.declared.messages.Call.{Call}
 use Rattle.lr_base.specs.declared.messages.LogAck.{LogAck}
-use Rattle.lr_base.specs.declared.names.Cid.{Cid}
 use Rattle.lr_base.specs.declared.names.Config.{Config}
 use Rattle.lr_base.specs.declared.names.Spot.{Spot}
 use Rattle.lr_graph.specs.Closed.{IsMade, IsSound}
@@ -14,7 +11,7 @@ use Rattle.lr_graph.specs.Graph.{Acceptance, Facts, LabelledCall, ready}
 use Rattle.lr_graph.specs.Legal.{logged, state_line_of}
 use Rattle.lr_graph.proofs.CallLists.{calls-table}
 use Rattle.lr_graph.proofs.Listing.{spots-log}
-use Rattle.lr_graph.proofs.Relation.{HasReplica, IsReplicaAt, IsTied, SameHeld, SameList}
+use Rattle.lr_graph.proofs.Relation.{IsReplicaAt, SameHeld, SameList}
 use Rattle.lr_graph.proofs.Tallying.{counts-are}
 
 -- the same calls are held

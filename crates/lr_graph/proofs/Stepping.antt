@@ -1,15 +1,13 @@
 -- A whole step of a replica: its own part, and then the end of the step.
-use Rattle.std.proofs.Common.{◌≡◌, ◌≢◌, ℕ, zero, suc, ◌+◌, ◌<◌, ◌≤◌, Bool, true, false, cond, ◌==◌, ◌⊎◌, inl, inr, not, filter, List, [], ◌∷◌, ◌++◌, length, set, Option, Some, None, refl, sym, ap, ◌∙◌, subst, arith, true≢false, eqb-true, eq-eqb}
+use Rattle.std.proofs.Common.{◌≡◌, ◌≢◌, ℕ, ◌+◌, ◌<◌, true, false, cond, ◌==◌, ◌⊎◌, inl, inr, not, filter, List, [], ◌∷◌, ◌++◌, length, set, Option, Some, refl, sym, ap, ◌∙◌, subst, arith, eqb-true, eq-eqb}
 use Rattle.std.proofs.lemmas.List.{append_assoc, length-append}
 use Rattle.std.proofs.lemmas.Option.{slice_get_within}
 use Rattle.std.specs.List.{slice_get}
-use Rattle.lr_base.specs.Fronts.{FrontState}
-use Rattle.lr_base.specs.Kinds.{are_ordered, is_forced, is_immediate}
+use Rattle.lr_base.specs.Kinds.{IsPlain, are_ordered}
 use Rattle.lr_base.specs.Meaning.{Lawful, Meaning}
 use Rattle.lr_base.specs.Replicas.{ReplicaState}
 use Rattle.lr_base.specs.Rules.{CausalState, applied}
 use Rattle.lr_base.specs.Steps.{Ending, ended, held_acts}
-use Rattle.lr_base.specs.declared.acts.Act.{Act}
 use Rattle.lr_base.specs.declared.acts.Posted.{Posted}
 use Rattle.lr_base.specs.declared.events.Outcome.{Outcome}
 use Rattle.lr_base.specs.declared.lr_service.Kind.{Kind}
@@ -17,16 +15,16 @@ use Rattle.lr_base.specs.declared.names.Actor.TheVariants.{Replica}
 use Rattle.lr_base.specs.declared.names.Cid.{Cid}
 use Rattle.lr_base.specs.declared.names.Config.{Config}
 use Rattle.lr_graph.specs.After.{line_read, lines_read, replica_ended, step_ended}
-use Rattle.lr_graph.specs.Closed.{Each, IsAmong}
+use Rattle.lr_graph.specs.Closed.{Each}
 use Rattle.lr_graph.specs.Graph.{Acceptance, Facts, Kept, LabelledCall, SentMessage, is_within, keep_new, ready}
-use Rattle.lr_graph.specs.Legal.{answers, answers_at, logged, next_number}
+use Rattle.lr_graph.specs.Legal.{answers_at, logged, next_number}
 use Rattle.lr_graph.specs.Runs.{RunState, act_lines, act_posts}
 use Rattle.lr_graph.specs.Sets.{put_at}
 use Rattle.lr_graph.proofs.Ending.{HasSent, IsMid, answers-sent, ended-at, mid-test, same-answers}
 use Rattle.lr_graph.proofs.Members.{each-at, each-from, each-map}
 use Rattle.lr_graph.proofs.Places.{slice-set_other, slice-set_same}
 use Rattle.lr_graph.proofs.Posting.{act_lines-append, act_posts-append}
-use Rattle.lr_graph.proofs.Relation.{HasReplica, IsAcceptance, IsPlain, IsReplicaAt, IsSame, IsShared, IsTied, calls_in}
+use Rattle.lr_graph.proofs.Relation.{IsAcceptance, IsReplicaAt, IsSame, IsShared, IsTied, calls_in}
 use Rattle.lr_graph.proofs.Settling.{settled}
 use Rattle.lr_graph.proofs.Tests.{equal-or-not, never}
 use Rattle.lr_graph.proofs.Ties.{HasApplied, HasOneCall, IsFree}
@@ -46,15 +44,19 @@ lines_read-append x w (line ∷ xs) ys = lines_read-append x (line_read x w line
 
 -- ---- what the acceptances of a run keep
 
+some-is : {X : Type 0} (a b : X) → Some a ≡ Some b → a ≡ b
+some-is a b e = cc
+
 -- acceptances of one call are of what was issued
-pub one-call : {Value Op : Type 0} (m : Meaning Value Op) (config : Config) (issued : Cid → LabelledCall Op) (calls : ℕ → ℕ) (l : List (Acceptance Op)) → Each (IsAcceptance m config issued calls) l → HasOneCall l
+pub one-call : {Value Op : Type 0} (m : Meaning Value Op) (config : Config) (issued : Cid → Option (LabelledCall Op)) (calls : ℕ → ℕ) (l : List (Acceptance Op)) → Each (IsAcceptance m config issued calls) l → HasOneCall l
 one-call {Value} {Op} m config issued calls l each a b in_a in_b same =
     let first = each-at _ a l each in_a in
     let second = each-at _ b l each in_b in
-    (first.op ∙ ap (λ (c : Cid). (issued c).op) same ∙ sym second.op, λ s. first.label s ∙ ap (λ (c : Cid). (issued c).label s) same ∙ sym (second.label s))
+    let one : first.call ≡ second.call = some-is first.call second.call (sym first.is ∙ ap issued same ∙ second.is) in
+    (first.op ∙ ap (λ (c : LabelledCall Op). c.op) one ∙ sym second.op, λ s. first.label s ∙ ap (λ (c : LabelledCall Op). c.label s) one ∙ sym (second.label s))
 
 -- none of them needs an order
-pub all-free : {Value Op : Type 0} (m : Meaning Value Op) (config : Config) (issued : Cid → LabelledCall Op) (calls : ℕ → ℕ) (l : List (Acceptance Op)) → Each (IsAcceptance m config issued calls) l → IsFree m l
+pub all-free : {Value Op : Type 0} (m : Meaning Value Op) (config : Config) (issued : Cid → Option (LabelledCall Op)) (calls : ℕ → ℕ) (l : List (Acceptance Op)) → Each (IsAcceptance m config issued calls) l → IsFree m l
 all-free m config issued calls l each = record {
   updates = each-map _ _ l (λ a h. h.update) each;
   unordered = each-map _ _ l (λ a h. each-map _ _ l (λ b k. plain (m.kind a.op) (m.kind b.op) h.plain k.plain) each) each;
@@ -66,7 +68,7 @@ all-free m config issued calls l each = record {
 -- ---- a step of replica i
 
 -- the own part is done on both sides: the facts are these, and the state and the acts those
-pub record IsOwnPart {Value Op : Type 0} (m : Meaning Value Op) (config : Config) (issued : Cid → LabelledCall Op) (w : Facts Op) (v : RunState Value Op) (i : ℕ) (x : Option (SentMessage Op)) (own : List Outcome) (end : Ending Value Op) : Type 0 where
+pub record IsOwnPart {Value Op : Type 0} (m : Meaning Value Op) (config : Config) (issued : Cid → Option (LabelledCall Op)) (w : Facts Op) (v : RunState Value Op) (i : ℕ) (x : Option (SentMessage Op)) (own : List Outcome) (end : Ending Value Op) : Type 0 where
   pub lines : own ≡ act_lines (length v.posted) (Replica i) end.acts
   pub shared : IsShared m config issued (lines_read x w own) v.fronts (v.posted ++ act_posts (Replica i) end.acts)
   pub mid : IsMid m config (lines_read x w own) i end.state
@@ -77,7 +79,7 @@ pub record IsStep {Value Op : Type 0} (m : Meaning Value Op) (config : Config) (
   pub lines : outcomes ≡ own ++ answers_at m (lines_read x w own) i
   pub same : IsSame m config (step_ended i (lines_read x w (own ++ answers_at m (lines_read x w own) i))) run
 
-module _ {Value Op : Type 0} (m : Meaning Value Op) (kind_of : Op → Kind) (lawful : Lawful m kind_of) (config : Config) (issued : Cid → LabelledCall Op) (w : Facts Op) (v : RunState Value Op) (i : ℕ) (here : i < config.replicas)
+module _ {Value Op : Type 0} (m : Meaning Value Op) (kind_of : Op → Kind) (lawful : Lawful m kind_of) (config : Config) (issued : Cid → Option (LabelledCall Op)) (w : Facts Op) (v : RunState Value Op) (i : ℕ) (here : i < config.replicas)
     (replica : ReplicaState Value Op) (there : slice_get v.replicas i ≡ Some replica) (setting : replica.config ≡ config) (number : replica.me ≡ i)
     (x : Option (SentMessage Op)) (own : List Outcome) (end : Ending Value Op) (part : IsOwnPart m config issued w v i x own end) where
   abbrev w1 : Facts Op
@@ -123,8 +125,8 @@ module _ {Value Op : Type 0} (m : Meaning Value Op) (kind_of : Op → Kind) (law
   shared_end : IsShared m config issued w2 v.fronts (v.posted ++ act_posts (Replica i) last.acts)
   shared_end =
       let posts : posted1 ++ act_posts (Replica i) (held_acts m now now.held) ≡ v.posted ++ act_posts (Replica i) last.acts =
-          append_assoc v.posted (act_posts (Replica i) end.acts) (act_posts (Replica i) (held_acts m now now.held))
-          ∙ ap (λ (ps : List (Posted Op)). v.posted ++ ps) (sym (act_posts-append (Replica i) end.acts (held_acts m now now.held))) in
+      append_assoc v.posted (act_posts (Replica i) end.acts) (act_posts (Replica i) (held_acts m now now.held))
+      ∙ ap (λ (ps : List (Posted Op)). v.posted ++ ps) (sym (act_posts-append (Replica i) end.acts (held_acts m now now.held))) in
       let s = subst (λ (ps : List (Posted Op)). IsShared m config issued (record w1 { messages = sent.messages }) v.fronts ps) posts sent.shared in
       record { sound = s.sound; each = s.each; own = s.own; exist = s.exist; fronts_are = s.fronts_are; opened = s.opened; count = s.count; messages = s.messages }
 
@@ -151,8 +153,8 @@ module _ {Value Op : Type 0} (m : Meaning Value Op) (kind_of : Op → Kind) (law
           state_is = refl;
         },
         subst (λ kept. IsReplicaAt m config w1.accepted (w1.received i) (logged config w1 i) kept (w2.held i) last.state) (sym (put-same i kept2 w1.kept))
-        (subst (λ held. IsReplicaAt m config w1.accepted (w1.received i) (logged config w1 i) kept2 held last.state) (sym (put-same i held2 w1.held))
-        (ended-at m config w1 i part.shared.sound end.state part.mid kept2 all_applied alone)),
+            (subst (λ held. IsReplicaAt m config w1.accepted (w1.received i) (logged config w1 i) kept2 held last.state) (sym (put-same i held2 w1.held))
+            (ended-at m config w1 i part.shared.sound end.state part.mid kept2 all_applied alone)),
       )
       by_place (inr apart) =
           let old = part.others j apart within in (
@@ -165,7 +167,7 @@ module _ {Value Op : Type 0} (m : Meaning Value Op) (kind_of : Op → Kind) (law
               state_is = old.1.state_is;
             },
             subst (λ kept. IsReplicaAt m config w1.accepted (w1.received j) (logged config w1 j) kept (w2.held j) old.0) (sym (put-other i j kept2 w1.kept apart))
-            (subst (λ held. IsReplicaAt m config w1.accepted (w1.received j) (logged config w1 j) (w1.kept j) held old.0) (sym (put-other i j held2 w1.held apart)) old.2),
+                (subst (λ held. IsReplicaAt m config w1.accepted (w1.received j) (logged config w1 j) (w1.kept j) held old.0) (sym (put-other i j held2 w1.held apart)) old.2),
           )
 
   pub step-ends : IsStep m config w x (Some i) own (act_lines (length v.posted) (Replica i) last.acts) (record { replicas = replicas2; fronts = v.fronts; posted = v.posted ++ act_posts (Replica i) last.acts })

@@ -1,22 +1,14 @@
 -- How many acceptances a set has, and the least logged spot of a call.
-use Rattle.std.proofs.Common.{◌≡◌, ◌≢◌, ℕ, zero, suc, ◌+◌, ◌<◌, ◌≤◌, Bool, true, false, cond, not, ◌&&◌, ◌||◌, ◌==◌, ◌⊎◌, inl, inr, nat_lt, nat_le, List, [], ◌∷◌, ◌++◌, length, filter, find, Option, Some, None, refl, sym, ap, ◌∙◌, subst, arith, true≢false, eqb-true, eq-eqb, leb-true, le-leb}
-use Rattle.std.specs.Option.{option_map}
-use Rattle.lr_base.specs.Rules.{is_before, same_cid}
+use Rattle.std.proofs.Common.{◌≡◌, ◌≢◌, ℕ, zero, suc, ◌+◌, ◌<◌, ◌≤◌, Bool, true, false, cond, ◌&&◌, ◌||◌, ◌==◌, ◌⊎◌, inl, inr, nat_le, List, [], ◌∷◌, ◌++◌, length, refl, sym, ap, ◌∙◌, arith, true≢false, eqb-true, eq-eqb, leb-true, le-leb}
 use Rattle.lr_base.specs.Stamps.{part}
-use Rattle.lr_base.specs.declared.messages.LogUpdate.{LogUpdate}
-use Rattle.lr_base.specs.declared.names.Cid.{Cid}
 use Rattle.lr_base.specs.declared.names.Spot.{Spot}
 use Rattle.lr_graph.specs.Closed.{Each, HasApartSpots, IsAmong, IsMade, IsSound}
-use Rattle.lr_graph.specs.Graph.{Acceptance, counts, least_spot, made, size_of}
+use Rattle.lr_graph.specs.Graph.{Acceptance, counts, made}
 use Rattle.lr_graph.specs.Names.{IsCounted, spot_at}
 use Rattle.lr_graph.specs.Sets.{SpotSet, how_many, same_spot}
-use Rattle.lr_graph.proofs.Central.{counted-has, counted-least, counted-most}
-use Rattle.lr_graph.proofs.KeptSpots.{IsFirst, least_spot-first, least_spot-lacks}
-use Rattle.lr_graph.proofs.Members.{among-filter, each-at, each-from, each-map, filter-each, find-none, find-passed, find-some}
-use Rattle.lr_graph.proofs.ReadySets.{apart-same}
-use Rattle.lr_graph.proofs.Tests.{and-intro, and-left, and-right, equal-or-not, le-or-lt, never, or-cases, or-left, or-right, same-test, same_cid-is, same_cid-self, same_spot-is, same_spot-self, spots-apart}
-use Rattle.lr_graph.proofs.Ties.{HasUpdateAt, IsAscending, IsLogOf, IsUpdateOf, StandsFor}
-use Rattle.lr_graph.proofs.Values.{has_call-holds}
+use Rattle.lr_graph.proofs.Central.{counted-has, counted-most}
+use Rattle.lr_graph.proofs.Members.{each-at, each-from, each-map}
+use Rattle.lr_graph.proofs.Tests.{and-intro, and-left, and-right, equal-or-not, never, or-cases, or-left, or-right, same-test, same_spot-is, same_spot-self, spots-apart}
 
 -- ---- counting
 

@@ -1,5 +1,5 @@
 -- How a replica's state and its part of the graph belong together.
-use Rattle.std.proofs.Common.{◌≡◌, ◌<◌, ℕ, Bool, true, false, List, [], ◌∷◌, Option, Some, is_some}
+use Rattle.std.proofs.Common.{◌≡◌, ◌<◌, true, false, List, [], ◌∷◌, Some, is_some}
 use Rattle.std.specs.Option.{option_map}
 use Rattle.lr_base.specs.Kinds.{IsUpdate, are_ordered}
 use Rattle.lr_base.specs.Meaning.{Meaning}
@@ -9,7 +9,7 @@ use Rattle.lr_base.specs.declared.messages.Known.{Known}
 use Rattle.lr_base.specs.declared.messages.LogUpdate.{LogUpdate}
 use Rattle.lr_base.specs.declared.names.Cid.{Cid}
 use Rattle.lr_base.specs.declared.names.Spot.{Spot}
-use Rattle.lr_graph.specs.Closed.{Each, IsAmong, IsSound, IsWithin, causes}
+use Rattle.lr_graph.specs.Closed.{Each, IsAmong, causes}
 use Rattle.lr_graph.specs.Graph.{Acceptance, Kept, has_call, kept_spot, ready, value}
 use Rattle.lr_graph.specs.Names.{IsCounted, Names}
 use Rattle.lr_graph.specs.Sets.{SpotSet}

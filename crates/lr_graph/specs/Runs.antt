@@ -1,6 +1,7 @@
 -- What each event does in a run: all actors together, each by its own rules.
-use Rattle.std.specs.Prelude.{◌+◌, ◌^◌, ◌==◌, ℕ, zero, suc, Bool, true, false, List, [], ◌∷◌, ◌++◌, length, set, Option, Some, None}
+use Rattle.std.specs.Prelude.{◌<◌, ◌+◌, ◌^◌, ◌==◌, ℕ, zero, suc, Bool, true, false, List, [], ◌∷◌, ◌++◌, length, set, Option, Some, None}
 use Rattle.std.specs.List.{slice_get}
+use Rattle.lr_base.specs.Kinds.{IsPlain}
 use Rattle.lr_base.specs.Meaning.{Meaning}
 use Rattle.lr_base.specs.declared.events.Event.{Event}
 use Rattle.lr_base.specs.declared.events.Event.TheVariants.{Call, Deliver, Show}
@@ -150,6 +151,12 @@ abbrev pub stepped : {Value Op : Type 0} → Meaning Value Op → RunState Value
 stepped m run (Call client replica reading op) = client_called m run client (Replica replica) reading op (slice_get run.fronts client)
 stepped m run (Deliver message) = delivered m run message (message_at run.posted message)
 stepped m run (Show replica) = unchanged run (shown (slice_get run.replicas replica))
+
+-- an event names a client and a replica that there are, and an operation that is ordered by labels alone
+abbrev pub IsEventOf : {Value Op : Type 0} → Meaning Value Op → Config → Event Op → Type 0
+IsEventOf m config (Call client replica reading op) = (client < config.clients) × (replica < config.replicas) × IsPlain (m.kind op)
+IsEventOf m config (Deliver message) = Unit {0}
+IsEventOf m config (Show replica) = replica < config.replicas
 
 -- the steps that these events make from here
 abbrev pub steps_from : {Value Op : Type 0} → Meaning Value Op → RunState Value Op → List (Event Op) → List (Step Op)

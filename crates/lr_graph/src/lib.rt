@@ -1,8 +1,10 @@
 //! Which histories are legal: by the causes of updates, as sets, and by one value of each set.
 #![tactic(auto)]
 
+mod laws;
 mod worked;
 
+pub use laws::{legal_histories_are_one, runs_are_legal};
 pub use worked::{
     a_reply_that_is_not_taken_is_not_legal, an_addition_is_read, another_answer_is_not_legal,
 };

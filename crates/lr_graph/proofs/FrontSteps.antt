@@ -1,0 +1,120 @@
+-- A front end that changes: a call that is made or refused, and a reply that comes.
+use Rattle.std.proofs.Common.{◌≡◌, ◌≢◌, ℕ, ◌<◌, ◌≤◌, Bool, true, false, cond, ◌==◌, ◌⊎◌, inl, inr, find, List, set, Option, Some, None, refl, sym, ◌∙◌, subst, arith, eqb-true}
+use Rattle.std.specs.List.{slice_get}
+use Rattle.std.proofs.lemmas.Option.{slice_get_within}
+use Rattle.lr_base.specs.Fronts.{FrontState}
+use Rattle.lr_base.specs.Meaning.{Meaning}
+use Rattle.lr_base.specs.declared.acts.Posted.{Posted}
+use Rattle.lr_base.specs.declared.messages.Message.{Message}
+use Rattle.lr_base.specs.declared.messages.Message.TheVariants.{Answer, Done, Query, Update}
+use Rattle.lr_base.specs.declared.names.Cid.{Cid}
+use Rattle.lr_base.specs.declared.names.Config.{Config}
+use Rattle.lr_graph.specs.Graph.{Acceptance, AnswerReply, Blank, Carried, DoneReply, Facts, FrontFacts, LabelledCall, QueryCopy, SentMessage, UpdateCopy}
+use Rattle.lr_graph.specs.Runs.{RunState, message_at}
+use Rattle.lr_graph.specs.Sets.{put_at}
+use Rattle.lr_graph.proofs.Members.{each-map}
+use Rattle.lr_graph.proofs.Places.{slice-set_other, slice-set_same}
+use Rattle.lr_graph.proofs.Relation.{HasFront, IsAcceptance, IsIssued, IsOpen, IsSame, IsShared, SameCarried, SameFront, SameMessage, SameOption, calls_in}
+use Rattle.lr_graph.proofs.Stepping.{put-other, put-same}
+use Rattle.lr_graph.proofs.Tests.{equal-or-not}
+
+-- other names of calls, which agree on what was issued
+module _ {Value Op : Type 0} (m : Meaning Value Op) (config : Config) (l : List (Acceptance Op)) (issued more : Cid → Option (LabelledCall Op)) (calls after : ℕ → ℕ)
+    (agree : (c : Cid) → c.seq ≤ calls c.client → more c ≡ issued c) (grows : (client : ℕ) → calls client ≤ after client) where
+  issued-more : (c : LabelledCall Op) → IsIssued config.clients issued calls c → IsIssued config.clients more after c
+  issued-more c h = record { is = agree c.cid h.number ∙ h.is; number = (let g = grows c.cid.client in let n = h.number in omega arith); client = h.client }
+
+  pub open-more : (o : Option (LabelledCall Op)) → IsOpen config.clients issued calls o → IsOpen config.clients more after o
+  open-more None h = tt
+  open-more (Some c) h = issued-more c h
+
+  acceptance-more : (a : Acceptance Op) → IsAcceptance m config issued calls a → IsAcceptance m config more after a
+  acceptance-more a h = record {
+    call = h.call;
+    is = agree a.cid h.number ∙ h.is;
+    op = h.op;
+    label = h.label;
+    number = (let g = grows a.cid.client in let n = h.number in omega arith);
+    client = h.client;
+    place = h.place;
+    update = h.update;
+    plain = h.plain;
+  }
+
+  carried-issued : (x : Carried Op) (p : Message Op) → SameCarried m config.clients l issued calls x p → SameCarried m config.clients l more after x p
+  carried-issued (UpdateCopy e t) (Update f time) h = (h.0, h.1, issued-more e h.2, h.3, h.4)
+  carried-issued (QueryCopy e) (Query f) h = (h.0, issued-more e h.1)
+  carried-issued (DoneReply cid names) (Done other at stamp) h = h
+  carried-issued (AnswerReply cid names) (Answer other text stamp) h = h
+  carried-issued (UpdateCopy e t) (Query f) h = absurd h
+  carried-issued (UpdateCopy e t) (Done other at stamp) h = absurd h
+  carried-issued (UpdateCopy e t) (Answer other text stamp) h = absurd h
+  carried-issued (QueryCopy e) (Update f time) h = absurd h
+  carried-issued (QueryCopy e) (Done other at stamp) h = absurd h
+  carried-issued (QueryCopy e) (Answer other text stamp) h = absurd h
+  carried-issued (DoneReply cid names) (Update f time) h = absurd h
+  carried-issued (DoneReply cid names) (Query f) h = absurd h
+  carried-issued (DoneReply cid names) (Answer other text stamp) h = absurd h
+  carried-issued (AnswerReply cid names) (Update f time) h = absurd h
+  carried-issued (AnswerReply cid names) (Query f) h = absurd h
+  carried-issued (AnswerReply cid names) (Done other at stamp) h = absurd h
+  carried-issued Blank (Update f time) h = absurd h
+  carried-issued Blank (Query f) h = absurd h
+  carried-issued Blank (Done other at stamp) h = absurd h
+  carried-issued Blank (Answer other text stamp) h = absurd h
+
+  option-issued : (o : Option (SentMessage Op)) (p : Option (Posted Op)) → SameOption (SameMessage m config l issued calls) o p → SameOption (SameMessage m config l more after) o p
+  option-issued None None h = tt
+  option-issued None (Some p) h = h
+  option-issued (Some x) None h = h
+  option-issued (Some x) (Some p) h = record { to = h.to; there = h.there; what = carried-issued x.what p.message h.what }
+
+module _ {Value Op : Type 0} (m : Meaning Value Op) (config : Config) (w : Facts Op) (v : RunState Value Op) (same : IsSame m config w v) (client : ℕ) (here : client < config.clients)
+    (before : FrontState) (there : slice_get v.fronts client ≡ Some before) where
+  -- this front end is changed on both sides: what is shared goes on to hold
+  pub front-shared : (more : Cid → Option (LabelledCall Op)) (a : FrontFacts Op) (f : FrontState) → SameFront w.accepted client a f → (w.front client).calls ≤ a.calls
+      → ((c : Cid) → c.seq ≤ calls_in w c.client → more c ≡ same.issued c) → IsOpen config.clients more (λ j. (put_at client a w.front j).calls) a.open_call
+      → IsShared m config more (record w { front = put_at client a w.front }) (set v.fronts client f) v.posted
+  front-shared more a f is le agree opened = record {
+    sound = same.shared.sound;
+    each = each-map _ _ w.accepted (acceptance-more m config w.accepted same.issued more (calls_in w) after agree grows) same.shared.each;
+    own = same.shared.own;
+    exist = same.shared.exist;
+    fronts_are = fronts;
+    opened = opened_all;
+    count = same.shared.count;
+    messages = λ n. option-issued m config w.accepted same.issued more (calls_in w) after agree grows (find (λ y. y.number == n) w.messages) (message_at v.posted n) (same.shared.messages n);
+  }
+    where
+      after : ℕ → ℕ
+      after j = (put_at client a w.front j).calls
+
+      grows : (j : ℕ) → calls_in w j ≤ after j
+      grows j = by_place (j == client) refl
+        where
+          by_place : (t : Bool) → (j == client) ≡ t → calls_in w j ≤ (cond t a (w.front j)).calls
+          by_place true e = subst (λ (k : ℕ). calls_in w k ≤ a.calls) (sym (eqb-true j client e)) le
+          by_place false e = omega arith
+
+      fronts : (j : ℕ) → j < config.clients → HasFront w.accepted (set v.fronts client f) j (put_at client a w.front j)
+      fronts j within = by_place (equal-or-not j client)
+        where
+          by_place : (j ≡ client) ⊎ (j ≢ client) → HasFront w.accepted (set v.fronts client f) j (put_at client a w.front j)
+          by_place (inl e) = subst (λ (k : ℕ). HasFront w.accepted (set v.fronts client f) k (put_at client a w.front k)) (sym e)
+              (f, slice-set_same v.fronts client f (slice_get_within v.fronts client before there), subst (λ (b : FrontFacts Op). SameFront w.accepted client b f) (sym (put-same client a w.front)) is)
+          by_place (inr apart) =
+              let old = same.shared.fronts_are j within in
+              (old.0, slice-set_other v.fronts client j f apart ∙ old.1, subst (λ (b : FrontFacts Op). SameFront w.accepted j b old.0) (sym (put-other client j a w.front apart)) old.2)
+
+      opened_all : (j : ℕ) → IsOpen config.clients more after (put_at client a w.front j).open_call
+      opened_all j = by_place (j == client)
+        where
+          by_place : (t : Bool) → IsOpen config.clients more after (cond t a (w.front j)).open_call
+          by_place true = opened
+          by_place false = open-more m config w.accepted same.issued more (calls_in w) after agree grows (w.front j).open_call (same.shared.opened j)
+
+  -- and all else too
+  pub front-changed : (more : Cid → Option (LabelledCall Op)) (a : FrontFacts Op) (f : FrontState) → SameFront w.accepted client a f → (w.front client).calls ≤ a.calls
+      → ((c : Cid) → c.seq ≤ calls_in w c.client → more c ≡ same.issued c) → IsOpen config.clients more (λ j. (put_at client a w.front j).calls) a.open_call
+      → IsSame m config (record w { front = put_at client a w.front }) (record v { fronts = set v.fronts client f })
+  front-changed more a f is le agree opened = record { issued = more; shared = front-shared more a f is le agree opened; replicas = same.replicas }
