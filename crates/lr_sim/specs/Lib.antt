@@ -11,6 +11,7 @@ pub mod Runs
 pub mod Script
 pub mod Shapes
 pub mod Steps
+pub mod Tellable
 pub mod Texts
 pub mod Worlds
 pub mod Written
