@@ -5,6 +5,7 @@ mod act;
 mod acts;
 mod command;
 mod front;
+mod laws;
 mod posted;
 mod replica;
 mod report;
@@ -12,4 +13,5 @@ mod script;
 mod world;
 
 pub use command::{SimEnd, sim_command};
+pub use laws::printed_tells_histories_apart;
 pub use script::{Cause, Header, Name, ScriptFault, print_event, read_header, read_script};
