@@ -1,9 +1,13 @@
 pub mod Calling
 pub mod Cuts
+pub mod DigitsApart
 pub mod EventRefusals
 pub mod Everywhere
 pub mod FaultLemmas
+pub mod FieldsApart
+pub mod HistoriesApart
 pub mod InRange
+pub mod OutcomesApart
 pub mod Printables
 pub mod PrintedLemmas
 pub mod RunLemmas
@@ -11,4 +15,8 @@ pub mod ScriptRefusals
 pub mod ShownTexts
 pub mod SortedCalls
 pub mod Splits
+pub mod StatesApart
 pub mod Writing
+pub mod Refusing
+pub mod Printing
+pub mod Ending

@@ -113,11 +113,11 @@ script_read m bytes lines header other (Ok events) set short e fit text has =
     script_header m header other events bytes (record { valid = set; fit = fit; short = short; text = e ∙ ap (λ more. line_of (header_text header) ++ more) text }) has
 script_read m bytes lines header other (Err fault) set short e fit text has = tt
 
-head_fault : {Value Op : Type 0} (m : Meaning Value Op) (bytes : List ℕ) (fault : ScriptFault) → IsHeadFault bytes fault → IsScriptFault m bytes fault
+pub head_fault : {Value Op : Type 0} (m : Meaning Value Op) (bytes : List ℕ) (fault : ScriptFault) → IsHeadFault bytes fault → IsScriptFault m bytes fault
 head_fault m bytes (Line line cause) h = inl h
 head_fault m bytes NoMemory h = h
 
-lines_fault : {Value Op : Type 0} (m : Meaning Value Op) (bytes lines : List ℕ) (header : Header) → IsSetUp header.config → length bytes ≤ 8388608 → bytes ≡ line_of (header_text header) ++ lines → (fault : ScriptFault) → IsLineFault m header.config lines fault → IsScriptFault m bytes fault
+pub lines_fault : {Value Op : Type 0} (m : Meaning Value Op) (bytes lines : List ℕ) (header : Header) → IsSetUp header.config → length bytes ≤ 8388608 → bytes ≡ line_of (header_text header) ++ lines → (fault : ScriptFault) → IsLineFault m header.config lines fault → IsScriptFault m bytes fault
 lines_fault m bytes lines header set short e (Line line cause) h = inr (record { header = header; lines = lines; text = e; valid = set; short = short; bad = h })
 lines_fault m bytes lines header set short e NoMemory h = h
 

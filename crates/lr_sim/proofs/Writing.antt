@@ -14,12 +14,12 @@ use Rattle.lr_sim.specs.Printed.{step_text, steps_text}
 use Rattle.lr_graph.specs.Runs.{RunState, first_run, run_after, stepped, steps_from}
 use Rattle.lr_sim.specs.Script.{line_of}
 use Rattle.lr_sim.specs.Texts.{header_text}
-use Rattle.lr_sim.specs.Written.{HasPrinted, HasBegun, HasMoved}
+use Rattle.lr_sim.specs.Rendered.{HasRendered, HasRenderedPart, HasMoved}
 use Rattle.lr_sim.specs.declared.script.Header.{Header}
 
 module _ {Value Op : Type 0} (m : Meaning Value Op) where
   -- before the first event only the header is to be written
-  pub printed-none : (header : Header) (before : Option (List ℕ)) (text : List ℕ) → text ≡ line_of (header_text header) → HasPrinted m header [] before before text
+  pub printed-none : (header : Header) (before : Option (List ℕ)) (text : List ℕ) → text ≡ line_of (header_text header) → HasRendered m header [] before before text
   printed-none header before text is = record {
     written = [];
     appended = Appends-nil before;
@@ -27,7 +27,7 @@ module _ {Value Op : Type 0} (m : Meaning Value Op) where
   }
 
   -- one more event is printed behind what is to be written
-  pub printed-more : (header : Header) (events : List (Event Op)) (event : Event Op) (outcomes : List Outcome) (number : ℕ) (before now : Option (List ℕ)) (rest more : List ℕ) → outcomes ≡ (stepped m (run_after m (first_run m header.config) events) event).outcomes → number ≡ 1 + length events → more ≡ rest ++ step_text m header.config number event outcomes → HasPrinted m header events before now rest → HasPrinted m header (events ++ event ∷ []) before now more
+  pub printed-more : (header : Header) (events : List (Event Op)) (event : Event Op) (outcomes : List Outcome) (number : ℕ) (before now : Option (List ℕ)) (rest more : List ℕ) → outcomes ≡ (stepped m (run_after m (first_run m header.config) events) event).outcomes → number ≡ 1 + length events → more ≡ rest ++ step_text m header.config number event outcomes → HasRendered m header events before now rest → HasRendered m header (events ++ event ∷ []) before now more
   printed-more header events event outcomes number before now rest more did at is p =
       let run = first_run m header.config in
       let step : Step Op = record { event = event; outcomes = outcomes } in
@@ -51,7 +51,7 @@ module _ {Value Op : Type 0} (m : Meaning Value Op) where
       }
 
   -- some of what is to be written is written
-  pub printed-moved : (header : Header) (events : List (Event Op)) (before now next : Option (List ℕ)) (rest left : List ℕ) → HasMoved now next rest left → HasPrinted m header events before now rest → HasPrinted m header events before next left
+  pub printed-moved : (header : Header) (events : List (Event Op)) (before now next : Option (List ℕ)) (rest left : List ℕ) → HasMoved now next rest left → HasRendered m header events before now rest → HasRendered m header events before next left
   printed-moved header events before now next rest left moved p = record {
     written = p.written ++ moved.written;
     appended = Appends-trans before now next p.written moved.written p.appended moved.appended;
@@ -63,7 +63,7 @@ module _ {Value Op : Type 0} (m : Meaning Value Op) where
   take-next events place event within is = take_more events place event within ∙ ap (λ (e : Event Op). take place events ++ e ∷ []) (sym is)
 
   -- the same of one more of the events
-  pub printed-next : (header : Header) (events : List (Event Op)) (place : ℕ) (event : Event Op) (outcomes : List Outcome) (number : ℕ) (before now : Option (List ℕ)) (rest more : List ℕ) → outcomes ≡ (stepped m (run_after m (first_run m header.config) (take place events)) event).outcomes → place < length events → event ≡ get_or events place event → number ≡ place + 1 → more ≡ rest ++ step_text m header.config number event outcomes → HasPrinted m header (take place events) before now rest → HasPrinted m header (take (place + 1) events) before now more
+  pub printed-next : (header : Header) (events : List (Event Op)) (place : ℕ) (event : Event Op) (outcomes : List Outcome) (number : ℕ) (before now : Option (List ℕ)) (rest more : List ℕ) → outcomes ≡ (stepped m (run_after m (first_run m header.config) (take place events)) event).outcomes → place < length events → event ≡ get_or events place event → number ≡ place + 1 → more ≡ rest ++ step_text m header.config number event outcomes → HasRendered m header (take place events) before now rest → HasRendered m header (take (place + 1) events) before now more
   printed-next header events place event outcomes number before now rest more did within is count text p =
       let within' : place ≤ length events = omega arith in
       let long : length (take place events) ≡ place = length-take-le place events within' in
@@ -74,16 +74,16 @@ module _ {Value Op : Type 0} (m : Meaning Value Op) where
   run-next header events place event run did within is = rw (take-next events place event within is) (did ∙ sym (run_after-more m (first_run m header.config) (take place events) event))
 
   -- before the first write nothing of the history is written
-  pub begun-none : (header : Header) (events : List (Event Op)) (before : Option (List ℕ)) → HasBegun m header events before before
-  begun-none header events before = record { count = 0; rest = line_of (header_text header); printed_part = printed-none header before (line_of (header_text header)) refl }
+  pub begun-none : (header : Header) (events : List (Event Op)) (before : Option (List ℕ)) → HasRenderedPart m header events before before
+  begun-none header events before = record { count = 0; rest = line_of (header_text header); rendered = printed-none header before (line_of (header_text header)) refl }
 
   -- the events so far are some first ones
-  pub begun-part : (header : Header) (events : List (Event Op)) (count : ℕ) (before now : Option (List ℕ)) (rest : List ℕ) → HasPrinted m header (take count events) before now rest → HasBegun m header events before now
-  begun-part header events count before now rest p = record { count = count; rest = rest; printed_part = p }
+  pub begun-part : (header : Header) (events : List (Event Op)) (count : ℕ) (before now : Option (List ℕ)) (rest : List ℕ) → HasRendered m header (take count events) before now rest → HasRenderedPart m header events before now
+  begun-part header events count before now rest p = record { count = count; rest = rest; rendered = p }
 
   -- after the last event they are all
-  pub printed-all : (header : Header) (events : List (Event Op)) (count : ℕ) (before now : Option (List ℕ)) (rest : List ℕ) → length events ≤ count → HasPrinted m header (take count events) before now rest → HasPrinted m header events before now rest
-  printed-all header events count before now rest past p = subst (λ (es : List (Event Op)). HasPrinted m header es before now rest) (take_all count events past) p
+  pub printed-all : (header : Header) (events : List (Event Op)) (count : ℕ) (before now : Option (List ℕ)) (rest : List ℕ) → length events ≤ count → HasRendered m header (take count events) before now rest → HasRendered m header events before now rest
+  printed-all header events count before now rest past p = subst (λ (es : List (Event Op)). HasRendered m header es before now rest) (take_all count events past) p
 
 -- nothing was written
 pub moved-none : (before : Option (List ℕ)) (text : List ℕ) → HasMoved before before text text

@@ -1,15 +1,16 @@
 -- How a simulation ends.
-use Rattle.std.specs.Prelude.{◌≡◌, ◌<◌, ◌≤◌, ◌⊎◌, ℕ, List, [], Option, length}
+use Rattle.std.specs.Prelude.{◌≡◌, ◌<◌, ◌≤◌, ◌⊎◌, ◌↔◌, ℕ, List, [], Option, length}
 use Rattle.std.specs.Io.KnownBytes.{Appends, Consumes, IsAtEnd}
 use Rattle.lr_base.specs.Meaning.{Meaning}
 use Rattle.lr_base.specs.declared.events.Event.{Event}
 use Rattle.lr_outside.specs.Faults.{Rose}
 use Rattle.lr_sim.specs.Faults.{IsScriptFault}
-use Rattle.lr_sim.specs.Script.{IsScript}
-use Rattle.lr_sim.specs.Written.{HasPrinted, HasBegun}
+use Rattle.lr_sim.specs.Headline.{HasBegun, HasPrinted}
+use Rattle.lr_sim.specs.Script.{IsNoScript, IsScript}
 use Rattle.lr_sim.specs.declared.command.SimEnd.{SimEnd}
 use Rattle.lr_sim.specs.declared.command.SimEnd.TheVariants.{Ok as Done, Script, ReadFault, WriteFault, NoMemory}
 use Rattle.lr_sim.specs.declared.script.Cause.{Cause}
+use Rattle.lr_sim.specs.declared.script.Cause.TheVariants.{TooLong}
 use Rattle.lr_sim.specs.declared.script.Header.{Header}
 use Rattle.lr_sim.specs.declared.script.ScriptFault.{ScriptFault}
 use Rattle.lr_sim.specs.declared.script.ScriptFault.TheVariants.{Line, NoMemory as NoMemoryLeft}
@@ -25,24 +26,30 @@ pub record HasRead (before now : Option (List ℕ)) (bytes : List ℕ) : Type 0 
   pub most : length bytes ≤ 8388609
   pub whole : length bytes < 8388609 → IsAtEnd now
 
--- the bytes are a script, and the printed form of the history that its events make was written
+-- the bytes mean a header and events, and the legal history of these was written, whole
 pub record HasRun {Value Op : Type 0} (m : Meaning Value Op) (bytes : List ℕ) (before now : Option (List ℕ)) : Type 0 where
   pub header : Header
   pub events : List (Event Op)
   pub script : IsScript m header events bytes
   pub printed_all : HasPrinted m header events before now []
 
--- the bytes are a script, and the front of the printed form of the history that some first of its events make was written
+-- the bytes mean a header and events, and the front of the legal history of some first of these was written
 pub record HasRunPart {Value Op : Type 0} (m : Meaning Value Op) (bytes : List ℕ) (before now : Option (List ℕ)) : Type 0 where
   pub header : Header
   pub events : List (Event Op)
   pub script : IsScript m header events bytes
   pub printed_part : HasBegun m header events before now
 
+-- the bytes mean no header and no events: this is the first bad line, with the first cause at it; too many bytes are refused for just that
+pub record IsRefusal {Value Op : Type 0} (m : Meaning Value Op) (bytes : List ℕ) (line : ℕ) (cause : Cause) : Type 0 where
+  pub meaningless : IsNoScript m bytes
+  pub fault : IsScriptFault m bytes (Line line cause)
+  pub long : (cause ≡ TooLong) ↔ (8388608 < length bytes)
+
 -- what an end says of the bytes read and of what was written
 abbrev pub Means : {Value Op : Type 0} → Meaning Value Op → List ℕ → Option (List ℕ) → Option (List ℕ) → SimEnd → Type 0
 Means m bytes before now Done = HasRun m bytes before now
-Means m bytes before now (Script line cause) = IsScriptFault m bytes (Line line cause)
+Means m bytes before now (Script line cause) = IsRefusal m bytes line cause
 Means m bytes before now ReadFault = ⊥
 Means m bytes before now WriteFault = HasRunPart m bytes before now
 Means m bytes before now NoMemory = Appends before now [] ⊎ HasRunPart m bytes before now
@@ -61,3 +68,8 @@ pub record SimEnded {Out : Type 0} (read_before read_now write_before write_now 
   pub read_unwritten : end ≡ ReadFault → out_now ≡ out_before
   pub script_unwritten : (line : ℕ) (cause : Cause) → end ≡ Script line cause → out_now ≡ out_before
   pub write_fault : end ≡ WriteFault → Rose write_before write_now
+
+-- where neither count of faults rose, bytes were read, and if they mean a header and events the simulation is done; or there was no memory
+pub data IsComplete {Value Op : Type 0} (m : Meaning Value Op) (left_before left_now : Option (List ℕ)) (end : SimEnd) : Type 0 where
+  no_memory : end ≡ NoMemory → IsComplete m left_before left_now end
+  was_read : (bytes : List ℕ) → HasRead left_before left_now bytes → ((header : Header) (events : List (Event Op)) → IsScript m header events bytes → end ≡ Done) → IsComplete m left_before left_now end

@@ -1,12 +1,13 @@
 //! The command `sim`: reads a script to its end, runs it, and writes its history.
 ghost use Rattle.std.specs.Prelude.{ℕ, List, [], ◌≡◌, ◌≤◌, ◌≢◌, ◌++◌, OnOk, OnErr, length};
 ghost use Rattle.std.specs.List.{All};
+ghost use Rattle.lr_base.specs.Kinds.{IsPlain};
 ghost use Rattle.lr_base.specs.Tally.{tally};
 ghost use Rattle.lr_outside.specs.Faults.{Rose};
-ghost use Rattle.lr_sim.specs.Ends.{IsFault, Means, SimEnded, SimMeans};
+ghost use Rattle.lr_sim.specs.Ends.{IsComplete, IsFault, Means, SimEnded, SimMeans};
+ghost use Rattle.lr_sim.specs.Rendered.{HasMoved, HasRendered, HasRenderedPart};
 ghost use Rattle.lr_sim.specs.Script.{Fits, IsSetUp, line_of};
 ghost use Rattle.lr_sim.specs.Texts.{header_text};
-ghost use Rattle.lr_sim.specs.Written.{HasBegun, HasMoved, HasPrinted};
 
 use crate::report::{render_header, render_step};
 use crate::script::{Cause, Header, Name, ScriptFault, read_events, split_header};
@@ -14,6 +15,7 @@ use crate::world::World;
 use lr_base::lr_service::Service;
 use lr_base::svc_tally::Tally;
 use lr_base::{Event, NoMemory, Text};
+use lr_graph::runs_are_legal;
 use lr_outside::{Failed, ReadEnd, Sink, Source, read_up_to, write_whole};
 use std::alloc::Global;
 
@@ -41,6 +43,7 @@ pub enum SimEnd {
 pub fn sim_command<R: Source, W: Sink>(alloc: Global, input: &mut R, out: &mut W) -> SimEnd
     ensures meant { SimMeans tally (R.left input.old) (R.left input.new) (W.held out.old) (W.held out.new) result }
     ensures ended { SimEnded (R.faults input.old) (R.faults input.new) (W.faults out.old) (W.faults out.new) out.old out.new result }
+    ensures complete { ¬ (Rose (R.faults input.old) (R.faults input.new)) → ¬ (Rose (W.faults out.old) (W.faults out.new)) → IsComplete tally (R.left input.old) (R.left input.new) result }
 {
     let bytes = match read_up_to(alloc, input, MOST_INPUT) {
         Ok(bytes) => bytes,
@@ -84,6 +87,7 @@ fn simulate_lines<S: Service, W: Sink>(
 ) -> SimEnd
     requires set_up { IsSetUp header.config }
     requires short { length lines.now ≤ 8388608 }
+    requires plain { (op : S.Op) → IsPlain (S.meaning.kind op) }
     ensures meant { (bytes : List ℕ) → bytes ≡ line_of (header_text header) ++ lines.now → length bytes ≤ 8388608 →
         Means S.meaning bytes (W.held out.old) (W.held out.new) result }
     ensures read { result ≢ SimEnd.ReadFault }
@@ -91,6 +95,7 @@ fn simulate_lines<S: Service, W: Sink>(
     ensures write { result ≡ SimEnd.WriteFault → Rose (W.faults out.old) (W.faults out.new) }
     ensures later { W.faults out.old ≤ W.faults out.new }
 {
+    runs_are_legal::<S>();
     match read_events::<S>(alloc, header.config, lines) {
         Ok(events) => match write_history::<S, W>(alloc, &header, events.as_slice(), out) {
             Ok(()) => SimEnd::Ok,
@@ -139,8 +144,8 @@ fn write_history<S: Service, W: Sink>(
 ) -> Result<(), RunFault>
     requires set_up { IsSetUp header.now.config }
     requires fit { All (Fits S.meaning header.now.config) events.now }
-    ensures whole { OnOk result (HasPrinted S.meaning header.now events.now (W.held out.old) (W.held out.new) []) }
-    ensures part { HasBegun S.meaning header.now events.now (W.held out.old) (W.held out.new) }
+    ensures whole { OnOk result (HasRendered S.meaning header.now events.now (W.held out.old) (W.held out.new) []) }
+    ensures part { HasRenderedPart S.meaning header.now events.now (W.held out.old) (W.held out.new) }
     ensures write { result ≡ Err RunFault.Write → Rose (W.faults out.old) (W.faults out.new) }
     ensures later { W.faults out.old ≤ W.faults out.new }
 {

@@ -1,0 +1,24 @@
+-- What is written of a script: the printed form of the legal history of its events.
+use Rattle.std.specs.Prelude.{◌≡◌, ℕ, List, map, ◌++◌, take, Option}
+use Rattle.std.specs.Io.KnownBytes.{Appends}
+use Rattle.lr_base.specs.Meaning.{Meaning}
+use Rattle.lr_base.specs.declared.events.Event.{Event}
+use Rattle.lr_base.specs.declared.events.Step.{Step}
+use Rattle.lr_graph.specs.Legal.{IsLegal}
+use Rattle.lr_sim.specs.Printed.{printed}
+use Rattle.lr_sim.specs.declared.script.Header.{Header}
+
+-- there is a legal history of just these events; what was written is the front of its printed form, and this is the rest of it
+pub record HasPrinted {Value Op : Type 0} (m : Meaning Value Op) (header : Header) (events : List (Event Op)) (before now : Option (List ℕ)) (rest : List ℕ) : Type 0 where
+  pub history : List (Step Op)
+  pub legal : IsLegal m header.config history
+  pub events_are : map (λ step. step.event) history ≡ events
+  pub written : List ℕ
+  pub appended : Appends before now written
+  pub text : printed m header history ≡ written ++ rest
+
+-- the same of some first events
+pub record HasBegun {Value Op : Type 0} (m : Meaning Value Op) (header : Header) (events : List (Event Op)) (before now : Option (List ℕ)) : Type 0 where
+  pub count : ℕ
+  pub rest : List ℕ
+  pub printed_part : HasPrinted m header (take count events) before now rest

@@ -1,0 +1,93 @@
+-- What a printed history has to keep to, so that its text tells it from others: its numbers fit, its operations are real, and no answer holds a line feed.
+use Rattle.std.specs.Prelude.{◌≡◌, ◌≢◌, ℕ, ◌<◌, ◌^◌, true, List}
+use Rattle.std.specs.List.{All}
+use Rattle.lr_base.specs.Meaning.{Meaning}
+use Rattle.lr_base.specs.declared.events.Event.{Event}
+use Rattle.lr_base.specs.declared.events.Event.TheVariants.{Call, Deliver, Show}
+use Rattle.lr_base.specs.declared.events.Outcome.{Outcome}
+use Rattle.lr_base.specs.declared.events.Outcome.TheVariants.{Send, Accept, Hold, Got, Stale, NoMessage, Refuse, State}
+use Rattle.lr_base.specs.declared.events.Refusal.{Refusal}
+use Rattle.lr_base.specs.declared.events.Refusal.TheVariants.{Late, Again, Settled, FullLog, FullHeld, Worn, Unfinished}
+use Rattle.lr_base.specs.declared.events.Sent.{Sent}
+use Rattle.lr_base.specs.declared.events.Sent.TheVariants.{Update, Query, Done, Answer}
+use Rattle.lr_base.specs.declared.events.StateLine.{StateLine}
+use Rattle.lr_base.specs.declared.events.Step.{Step}
+use Rattle.lr_base.specs.declared.names.Actor.{Actor}
+use Rattle.lr_base.specs.declared.names.Actor.TheVariants.{Client, Replica}
+use Rattle.lr_base.specs.declared.names.Cid.{Cid}
+use Rattle.lr_base.specs.declared.names.Spot.{Spot}
+
+-- a number fits in 64 bits
+abbrev pub NumberFits : ℕ → Type 0
+NumberFits number = number < 2 ^ 64
+
+-- a call's two numbers fit
+abbrev pub CidFits : Cid → Type 0
+CidFits cid = NumberFits cid.client × NumberFits cid.seq
+
+-- a spot's two numbers fit
+abbrev pub SpotFits : Spot → Type 0
+SpotFits spot = NumberFits spot.place × NumberFits spot.number
+
+-- a mark's two numbers fit
+abbrev pub MarkFits : ℕ × ℕ → Type 0
+MarkFits mark = NumberFits mark.0 × NumberFits mark.1
+
+-- a client's or a replica's number fits
+abbrev pub ActorFits : Actor → Type 0
+ActorFits (Client number) = NumberFits number
+ActorFits (Replica number) = NumberFits number
+
+-- no byte is a line feed
+abbrev pub HasNoFeed : List ℕ → Type 0
+HasNoFeed text = All (λ byte. byte ≢ 10) text
+
+-- the numbers of a message fit, and the text of an answer holds no line feed
+abbrev pub SentFits : Sent → Type 0
+SentFits (Update cid time) = CidFits cid × NumberFits time
+SentFits (Query cid) = CidFits cid
+SentFits (Done cid spot) = CidFits cid × SpotFits spot
+SentFits (Answer cid text) = CidFits cid × HasNoFeed text
+
+-- the numbers in the reason why nothing was done fit
+abbrev pub RefusalFits : Refusal → Type 0
+RefusalFits (Late time clock) = NumberFits time × NumberFits clock
+RefusalFits (Again spot) = SpotFits spot
+RefusalFits Settled = Unit
+RefusalFits FullLog = Unit
+RefusalFits FullHeld = Unit
+RefusalFits Worn = Unit
+RefusalFits (Unfinished cid) = CidFits cid
+
+-- all numbers of a state fit
+pub record StateFits (line : StateLine) : Type 0 where
+  pub replica : NumberFits line.replica
+  pub view : NumberFits line.view
+  pub clock : NumberFits line.clock
+  pub received : All NumberFits line.received
+  pub log : All SpotFits line.log
+  pub acks : All SpotFits line.acks
+  pub calls : All CidFits line.calls
+  pub held : All CidFits line.held
+  pub marks : All MarkFits line.marks
+
+-- all numbers of an outcome fit, and the text of an answer holds no line feed
+abbrev pub OutcomeFits : Outcome → Type 0
+OutcomeFits (Send number from to what) = NumberFits number × ActorFits from × ActorFits to × SentFits what
+OutcomeFits (Accept spot cid) = SpotFits spot × CidFits cid
+OutcomeFits (Hold cid) = CidFits cid
+OutcomeFits (Got cid) = CidFits cid
+OutcomeFits (Stale cid) = CidFits cid
+OutcomeFits (NoMessage message) = NumberFits message
+OutcomeFits (Refuse why) = RefusalFits why
+OutcomeFits (State line) = StateFits line
+
+-- an event's numbers fit, and it calls an operation of the service
+abbrev pub EventFits : {Value Op : Type 0} → Meaning Value Op → Event Op → Type 0
+EventFits m (Call client replica reading op) = NumberFits client × NumberFits replica × NumberFits reading × (m.is_op op ≡ true)
+EventFits m (Deliver message) = NumberFits message
+EventFits m (Show replica) = NumberFits replica
+
+-- an event and what it did keep to all this
+abbrev pub IsTellable : {Value Op : Type 0} → Meaning Value Op → Step Op → Type 0
+IsTellable m step = EventFits m step.event × All OutcomeFits step.outcomes
