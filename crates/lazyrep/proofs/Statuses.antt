@@ -1,10 +1,11 @@
 -- An end of the simulation, told.
-use Rattle.std.proofs.Common.{◌≡◌, ◌≤◌, ◌⊎◌, inl, inr, ℕ, List, [], refl, sym, ap, subst}
+use Rattle.std.proofs.Common.{◌≡◌, ◌≤◌, ¬◌, ◌⊎◌, inl, inr, ℕ, List, [], refl, sym, ap, subst}
 use Rattle.std.specs.Prelude.{Option}
 use Rattle.std.specs.Io.KnownBytes.{Appends}
 use Rattle.std.proofs.KnownBytes.{Appends-nil}
 use Rattle.lr_base.specs.Tally.{tally}
-use Rattle.lr_sim.specs.Ends.{SimEnded, SimMeans}
+use Rattle.lr_outside.specs.Faults.{Rose}
+use Rattle.lr_sim.specs.Ends.{IsComplete, SimEnded, SimMeans, no_memory}
 use Rattle.lr_sim.specs.declared.command.SimEnd.{SimEnd}
 use Rattle.lr_sim.specs.declared.command.SimEnd.TheVariants.{Ok as Done, Script, ReadFault, WriteFault, NoMemory}
 use Rattle.lr_sim.specs.declared.script.Cause.{Cause}
@@ -26,14 +27,16 @@ module _ {Out : Type 0} (held : Out → Option (List ℕ)) (left_before left_now
   unwritten same = subst (λ (out : Out). Appends (held out_before) (held out) []) (sym same) (Appends-nil (held out_before))
 
   -- an end that was told gives its status
-  pub status-told : (end : SimEnd) (err_before err_now : ℕ) (told_before told_now : Option (List ℕ)) (code : ℕ) → SimMeans tally left_before left_now (held out_before) (held out_now) end → SimEnded read_before read_now write_before write_now out_before out_now end → Told err_before err_now told_before told_now end code → SimStatus left_before left_now (held out_before) (held out_now) read_before read_now write_before write_now out_before out_now err_before err_now told_before told_now code
-  status-told end err_before err_now told_before told_now code meant ended t = go t.same
+  pub status-told : (end : SimEnd) (err_before err_now : ℕ) (told_before told_now : Option (List ℕ)) (code : ℕ) → SimMeans tally left_before left_now (held out_before) (held out_now) end → SimEnded read_before read_now write_before write_now out_before out_now end
+      → (¬ (Rose read_before read_now) → ¬ (Rose write_before write_now) → IsComplete tally left_before left_now end) → Told err_before err_now told_before told_now end code → SimStatus left_before left_now (held out_before) (held out_now) read_before read_now write_before write_now out_before out_now err_before err_now told_before told_now code
+  status-told end err_before err_now told_before told_now code meant ended complete t = go t.same
     where
       go : (t.end_told ≡ end) ⊎ ((line : ℕ) × (cause : Cause) × (end ≡ Script line cause) × (t.end_told ≡ NoMemory)) → SimStatus left_before left_now (held out_before) (held out_now) read_before read_now write_before write_now out_before out_now err_before err_now told_before told_now code
       go (inl same) = record {
         end = t.end_told;
         meant = subst (λ (e : SimEnd). SimMeans tally left_before left_now (held out_before) (held out_now) e) (sym same) meant;
         ended = subst (λ (e : SimEnd). SimEnded read_before read_now write_before write_now out_before out_now e) (sym same) ended;
+        complete = λ no_read no_write. subst (λ (e : SimEnd). IsComplete tally left_before left_now e) (sym same) (complete no_read no_write);
         status = t.status;
         told = t.told;
       }
@@ -44,6 +47,7 @@ module _ {Out : Type 0} (held : Out → Option (List ℕ)) (left_before left_now
             end = t.end_told;
             meant = subst (λ (e : SimEnd). SimMeans tally left_before left_now (held out_before) (held out_now) e) (sym script.3) none;
             ended = subst (λ (e : SimEnd). SimEnded read_before read_now write_before write_now out_before out_now e) (sym script.3) (less script.0 script.1 ended');
+            complete = λ no_read no_write. no_memory script.3;
             status = t.status;
             told = t.told;
           }

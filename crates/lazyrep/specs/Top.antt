@@ -5,7 +5,7 @@ use Rattle.std.specs.Io.KnownBytes.{Appends}
 use Rattle.std.specs.declared.alloc.Global.{Global}
 use Rattle.lr_outside.specs.Faults.{Rose}
 use Rattle.lr_base.specs.Tally.{tally}
-use Rattle.lr_sim.specs.Ends.{SimEnded, SimMeans}
+use Rattle.lr_sim.specs.Ends.{IsComplete, SimEnded, SimMeans}
 use Rattle.lr_sim.specs.declared.command.SimEnd.{SimEnd}
 use Rattle.lr_sim.specs.declared.command.SimEnd.TheVariants.{Ok as Done, Script, ReadFault, WriteFault, NoMemory}
 use Rattle.lr_sim.specs.declared.script.Cause.{Cause}
@@ -63,10 +63,11 @@ pub record Told (err_before err_now : ℕ) (told_before told_now : Option (List 
   pub status : code ≡ code_of end_told
   pub told : ¬ (Rose err_before err_now) → Appends told_before told_now (text_of end_told)
 
--- the exit status is that of an end of the simulation, which means what it says of the bytes left and held, and where standard error didn't fail that end was told there
+-- the exit status is that of an end of the simulation, which means what it says of the bytes left and held; where neither source nor sink met a fault it is complete, and where standard error didn't fail that end was told there
 pub record SimStatus {Out : Type 0} (left_before left_now held_before held_now : Option (List ℕ)) (read_before read_now write_before write_now : ℕ) (out_before out_now : Out) (err_before err_now : ℕ) (told_before told_now : Option (List ℕ)) (code : ℕ) : Type 0 where
   pub end : SimEnd
   pub meant : SimMeans tally left_before left_now held_before held_now end
   pub ended : SimEnded read_before read_now write_before write_now out_before out_now end
+  pub complete : ¬ (Rose read_before read_now) → ¬ (Rose write_before write_now) → IsComplete tally left_before left_now end
   pub status : code ≡ code_of end
   pub told : ¬ (Rose err_before err_now) → Appends told_before told_now (text_of end)
