@@ -1,10 +1,11 @@
 -- The causal rules of a replica, as functions of its state.
-use Rattle.std.specs.Prelude.{ℕ, ◌+◌, find, filter, length, not, zero, suc, replicate, Bool, ◌&&◌, ◌||◌, ◌==◌, nat_lt, if◌then◌else◌, List, [], ◌∷◌, ◌++◌, Option, Some, None, is_some}
+use Rattle.std.specs.Prelude.{ℕ, ◌+◌, find, filter, get_or, length, set, not, zero, suc, replicate, Bool, ◌&&◌, ◌||◌, ◌==◌, nat_lt, if◌then◌else◌, List, [], ◌∷◌, ◌++◌, Option, Some, None, is_some}
 use Rattle.std.specs.Option.{option_map, option_map_or}
 use Rattle.lr_base.specs.declared.names.Cid.{Cid}
 use Rattle.lr_base.specs.declared.names.Spot.{Spot}
 use Rattle.lr_base.specs.declared.messages.Call.{Call}
 use Rattle.lr_base.specs.declared.messages.Fresh.{Fresh}
+use Rattle.lr_base.specs.declared.messages.Gossip.{Gossip}
 use Rattle.lr_base.specs.declared.messages.Fresh.TheVariants.{New, Late, Again, Settled}
 use Rattle.lr_base.specs.declared.messages.Known.{Known}
 use Rattle.lr_base.specs.declared.messages.LogAck.{LogAck}
@@ -109,6 +110,50 @@ accepted me state call =
       updates = put_update u state.updates;
       top = u.spot.number;
     }
+
+-- what a replica tells another: how many items it received of each place, and its whole log
+abbrev pub gossip_of : {Value Op : Type 0} → CausalState Value Op → Gossip Op
+gossip_of state = record { rep_ts = state.rep_ts; updates = state.updates; acks = state.acks }
+
+-- whether an item at this spot is new where so many items were received of each place
+abbrev pub is_new : List ℕ → Spot → Bool
+is_new rep_ts spot = nat_lt (part rep_ts spot.place) spot.number
+
+-- the updates that are new
+abbrev pub new_updates : {Op : Type 0} → List ℕ → List (LogUpdate Op) → List (LogUpdate Op)
+new_updates rep_ts updates = filter (λ u. is_new rep_ts u.spot) updates
+
+-- the acknowledgements that are new
+abbrev pub new_acks : List ℕ → List LogAck → List LogAck
+new_acks rep_ts acks = filter (λ a. is_new rep_ts a.spot) acks
+
+-- the list with these updates too, in the order of spots
+abbrev pub put_updates : {Op : Type 0} → List (LogUpdate Op) → List (LogUpdate Op) → List (LogUpdate Op)
+put_updates [] updates = updates
+put_updates (u ∷ more) updates = put_updates more (put_update u updates)
+
+-- the list with one more acknowledgement, in the order of spots
+abbrev pub put_ack : LogAck → List LogAck → List LogAck
+put_ack a [] = a ∷ []
+put_ack a (x ∷ acks) = if is_before a.spot x.spot then a ∷ x ∷ acks else x ∷ put_ack a acks
+
+-- the list with these acknowledgements too
+abbrev pub put_acks : List LogAck → List LogAck → List LogAck
+put_acks [] acks = acks
+put_acks (a ∷ more) acks = put_acks more (put_ack a acks)
+
+-- taking gossip of this replica: what is new is logged, and its stamp is joined to the own one and to the one kept of it
+abbrev pub gossip_taken : {Value Op : Type 0} → ℕ → CausalState Value Op → Gossip Op → CausalState Value Op
+gossip_taken from state gossip = record state {
+  rep_ts = join state.rep_ts gossip.rep_ts;
+  updates = put_updates (new_updates state.rep_ts gossip.updates) state.updates;
+  acks = put_acks (new_acks state.rep_ts gossip.acks) state.acks;
+  table = set state.table from (join (get_or state.table from []) gossip.rep_ts);
+}
+
+-- how many items of gossip are new
+abbrev pub new_count : {Value Op : Type 0} → CausalState Value Op → Gossip Op → ℕ
+new_count state gossip = length (new_updates state.rep_ts gossip.updates) + length (new_acks state.rep_ts gossip.acks)
 
 -- how far applying has come: the value, the stamp of what was applied, the executed calls
 pub record Progress (Value : Type 0) : Type 0 where

@@ -1,17 +1,19 @@
 -- What a replica does with a message, as a function of its state.
-use Rattle.std.specs.Prelude.{ℕ, ◌+◌, ◌^◌, Bool, true, false, not, nat_lt, if◌then◌else◌, List, [], ◌∷◌, ◌++◌, filter, length}
+use Rattle.std.specs.Prelude.{ℕ, ◌+◌, ◌^◌, ◌==◌, Bool, true, false, not, nat_lt, if◌then◌else◌, List, [], ◌∷◌, ◌++◌, filter, length}
 use Rattle.lr_base.specs.Meaning.{Meaning}
-use Rattle.lr_base.specs.Rules.{CausalState, accepted, applied, fresh_of, held_more, pruned, stamp_of, update_of_call}
+use Rattle.lr_base.specs.Rules.{CausalState, accepted, applied, fresh_of, gossip_of, gossip_taken, held_more, new_count, pruned, stamp_of, update_of_call}
 use Rattle.lr_base.specs.Stamps.{part, stamp_le}
-use Rattle.lr_base.specs.declared.events.Outcome.TheVariants.{Accept, Hold, Refuse}
+use Rattle.lr_base.specs.declared.events.Outcome.TheVariants.{Accept, Hold, Refuse, Take}
 use Rattle.lr_base.specs.declared.events.Refusal.{Refusal}
 use Rattle.lr_base.specs.declared.events.Refusal.TheVariants.{Late as IsLate, Again as WasTaken, Settled as IsSettled, FullLog, FullHeld, Worn}
 use Rattle.lr_base.specs.declared.messages.Call.{Call}
 use Rattle.lr_base.specs.declared.messages.Fresh.{Fresh}
 use Rattle.lr_base.specs.declared.messages.Fresh.TheVariants.{New, Late, Again, Settled}
+use Rattle.lr_base.specs.declared.messages.Gossip.{Gossip}
 use Rattle.lr_base.specs.declared.messages.Message.{Message}
-use Rattle.lr_base.specs.declared.messages.Message.TheVariants.{Update, Query, Done, Answer}
-use Rattle.lr_base.specs.declared.names.Actor.TheVariants.{Client}
+use Rattle.lr_base.specs.declared.messages.Message.TheVariants.{Update, Query, Done, Answer, Gossip as GossipMessage}
+use Rattle.lr_base.specs.declared.names.Actor.{Actor}
+use Rattle.lr_base.specs.declared.names.Actor.TheVariants.{Client, Replica}
 use Rattle.lr_base.specs.declared.names.Cid.{Cid}
 use Rattle.lr_base.specs.declared.names.Config.{Config}
 use Rattle.lr_base.specs.declared.names.Spot.{Spot}
@@ -92,15 +94,28 @@ abbrev pub query_taken : {Value Op : Type 0} → Meaning Value Op → CausalStat
 query_taken m state call true = record { state = state; acts = answer_act m state call ∷ [] }
 query_taken m state call false = query_held state call (nat_lt (length state.held) 1024)
 
--- what a message itself does at a replica: a reply has no rule there
-abbrev pub own_taken : {Value Op : Type 0} → Meaning Value Op → Config → ℕ → CausalState Value Op → Message Op → Ending Value Op
-own_taken m config me state (Update call time) = update_taken me state call (fresh_of config.delta state call.cid time)
-own_taken m config me state (Query call) = query_taken m state call (stamp_le call.prev state.val_ts)
-own_taken m config me state (Done cid spot stamp) = record { state = state; acts = [] }
-own_taken m config me state (Answer cid text stamp) = record { state = state; acts = [] }
+-- nothing is done
+abbrev pub idle : {Value Op : Type 0} → CausalState Value Op → Ending Value Op
+idle state = record { state = state; acts = [] }
+
+-- gossip is taken, if it comes from another replica
+abbrev pub gossip_given : {Value Op : Type 0} → ℕ → CausalState Value Op → Gossip Op → Bool → Ending Value Op
+gossip_given from state gossip true = idle state
+gossip_given from state gossip false = record { state = gossip_taken from state gossip; acts = Say (Take (new_count state gossip)) ∷ [] }
+
+-- what a message itself does at a replica: replies have no rule there, nor has what comes from where it can't
+abbrev pub own_taken : {Value Op : Type 0} → Meaning Value Op → Config → ℕ → CausalState Value Op → Actor → Message Op → Ending Value Op
+own_taken m config me state (Client client) (Update call time) = update_taken me state call (fresh_of config.delta state call.cid time)
+own_taken m config me state (Client client) (Query call) = query_taken m state call (stamp_le call.prev state.val_ts)
+own_taken m config me state (Replica from) (GossipMessage gossip) = gossip_given from state gossip (from == me)
+own_taken m config me state _ _ = idle state
 
 -- what a replica does with a message, to the end of the step
-abbrev pub taken : {Value Op : Type 0} → Meaning Value Op → Config → ℕ → CausalState Value Op → Message Op → Ending Value Op
-taken m config me state message =
-    let own = own_taken m config me state message in
+abbrev pub taken : {Value Op : Type 0} → Meaning Value Op → Config → ℕ → CausalState Value Op → Actor → Message Op → Ending Value Op
+taken m config me state from message =
+    let own = own_taken m config me state from message in
     ended m config.replicas own.state own.acts
+
+-- a replica sends gossip to another, to the end of the step
+abbrev pub gossiped : {Value Op : Type 0} → Meaning Value Op → ℕ → ℕ → CausalState Value Op → Ending Value Op
+gossiped m replicas to state = ended m replicas state (Send (Replica to) (GossipMessage (gossip_of state)) ∷ [])

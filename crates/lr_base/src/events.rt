@@ -17,6 +17,11 @@ pub enum Event<O> {
     Deliver {
         message: u64,
     },
+    /// A replica sends gossip to another.
+    Gossip {
+        from: u8,
+        to: u8,
+    },
     /// A replica's state is printed.
     Show {
         replica: u8,
@@ -30,6 +35,7 @@ pub enum Sent {
     Query { cid: Cid },
     Done { cid: Cid, spot: Spot },
     Answer { cid: Cid, text: Text },
+    Gossip,
 }
 
 /// Why nothing was done.
@@ -78,6 +84,10 @@ pub enum Outcome {
     },
     Hold {
         cid: Cid,
+    },
+    /// So many new items were taken from gossip.
+    Take {
+        count: u64,
     },
     /// A reply to the open call was taken.
     Got {

@@ -16,7 +16,7 @@ mod word;
 pub use acts::{Act, Posted};
 pub use events::{Event, Outcome, Refusal, Sent, StateLine, Step};
 pub use laws::{join_is_least, order_of_stamps, set_part_changes_one};
-pub use messages::{Call, Fresh, Known, LogAck, LogUpdate, Message};
+pub use messages::{Call, Fresh, Gossip, Known, LogAck, LogUpdate, Message};
 pub use names::{Actor, Cid, Config, Spot};
 pub use numbers::read_number;
 pub use rows::{NoMemory, Rows, Text};

@@ -4,7 +4,7 @@ ghost use Rattle.lr_base.specs.Rules.{stamp_of};
 
 use crate::lr_service::Operation;
 use crate::names::{Cid, Spot};
-use crate::rows::{NoMemory, Text};
+use crate::rows::{NoMemory, Rows, Text};
 use crate::stamp::Stamp;
 use std::alloc::AllocError;
 
@@ -119,6 +119,15 @@ impl Clone for Known {
     }
 }
 
+/// What a replica tells another: how many items it received of each place, and its whole log.
+#[derive(Drop)]
+pub struct Gossip<O> {
+    pub rep_ts: Stamp,
+    /// In the order of places and then numbers, as in the log.
+    pub updates: Rows<LogUpdate<O>>,
+    pub acks: Rows<LogAck>,
+}
+
 /// A message, with all that it carries.
 #[derive(Drop)]
 pub enum Message<O> {
@@ -130,4 +139,6 @@ pub enum Message<O> {
     Done { cid: Cid, spot: Spot, stamp: Stamp },
     /// The reply to a query: the service's answer, and what it was read after.
     Answer { cid: Cid, text: Text, stamp: Stamp },
+    /// What a replica tells another.
+    Gossip { gossip: Gossip<O> },
 }

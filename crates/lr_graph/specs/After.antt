@@ -1,16 +1,16 @@
 -- How the facts of a history change: by each event, and by each line that is printed of it.
 use Rattle.std.specs.Prelude.{ℕ, suc, Bool, true, false, ◌^◌, ◌==◌, ◌++◌, ◌∷◌, [], max, not, filter, find, List, Option, Some, None}
 use Rattle.lr_base.specs.declared.events.Event.{Event}
-use Rattle.lr_base.specs.declared.events.Event.TheVariants.{Call, Deliver, Show}
+use Rattle.lr_base.specs.declared.events.Event.TheVariants.{Call, Deliver, Gossip as GossipEvent, Show}
 use Rattle.lr_base.specs.declared.events.Outcome.{Outcome}
-use Rattle.lr_base.specs.declared.events.Outcome.TheVariants.{Send, Accept, Hold, Got, Stale, NoMessage, Refuse, State}
+use Rattle.lr_base.specs.declared.events.Outcome.TheVariants.{Send, Accept, Hold, Take, Got, Stale, NoMessage, Refuse, State}
 use Rattle.lr_base.specs.declared.events.Sent.{Sent}
-use Rattle.lr_base.specs.declared.events.Sent.TheVariants.{Update, Query, Done, Answer}
+use Rattle.lr_base.specs.declared.events.Sent.TheVariants.{Update, Query, Done, Answer, Gossip}
 use Rattle.lr_base.specs.declared.events.Step.{Step}
 use Rattle.lr_base.specs.declared.names.Actor.{Actor}
 use Rattle.lr_base.specs.declared.names.Actor.TheVariants.{Client, Replica}
 use Rattle.lr_base.specs.declared.names.Spot.{Spot}
-use Rattle.lr_graph.specs.Graph.{Carried, Facts, FrontFacts, LabelledCall, SentMessage, UpdateCopy, QueryCopy, DoneReply, AnswerReply, Blank, below_of, is_within, keep_new, ready}
+use Rattle.lr_graph.specs.Graph.{Carried, Facts, FrontFacts, LabelledCall, SentMessage, UpdateCopy, QueryCopy, DoneReply, AnswerReply, GossipOf, Blank, below_of, is_within, keep_new, ready}
 use Rattle.lr_graph.specs.Sets.{SpotSet, nothing, only, put_at, ◌∪◌}
 
 -- the next call of a front end, with the label that it has
@@ -29,12 +29,14 @@ event_read w (Call client replica reading op) =
     let front = w.front client in
     record w { front = put_at client (front_called client reading op front front.open_call (front.calls == 2 ^ 62)) w.front }
 event_read w (Deliver message) = w
+event_read w (GossipEvent from to) = w
 event_read w (Show replica) = w
 
 -- the message that an event delivers
 abbrev pub delivered : {Op : Type 0} → Facts Op → Event Op → Option (SentMessage Op)
 delivered w (Call client replica reading op) = None
 delivered w (Deliver message) = find (λ x. x.number == message) w.messages
+delivered w (GossipEvent from to) = None
 delivered w (Show replica) = None
 
 -- the replica that an actor is
@@ -51,6 +53,7 @@ receiving (Some x) = replica_of x.to
 abbrev pub stepping : {Op : Type 0} → Facts Op → Event Op → Option ℕ
 stepping w (Call client replica reading op) = None
 stepping w (Deliver message) = receiving (delivered w (Deliver message))
+stepping w (GossipEvent from to) = Some from
 stepping w (Show replica) = None
 
 -- the causes of a causal update: what its label names
@@ -67,12 +70,18 @@ abbrev pub ready_at : {Op : Type 0} → Facts Op → Actor → SpotSet
 ready_at w (Replica i) = ready w.accepted (w.received i)
 ready_at w (Client client) = nothing
 
--- what a message carries that is sent now: the open call of its client, or what its reply stands for
+-- what is received at an actor: nothing at a front end
+abbrev pub received_at : {Op : Type 0} → Facts Op → Actor → SpotSet
+received_at w (Replica i) = w.received i
+received_at w (Client client) = nothing
+
+-- what a message carries that is sent now: the open call of its client, what its reply stands for, or what its replica received
 abbrev pub carried : {Op : Type 0} → Facts Op → Actor → Sent → Carried Op
 carried w from (Update cid time) = copy_of (w.front cid.client).open_call (λ call. UpdateCopy call time)
 carried w from (Query cid) = copy_of (w.front cid.client).open_call QueryCopy
 carried w from (Done cid spot) = DoneReply cid (below_of w.accepted spot)
 carried w from (Answer cid text) = AnswerReply cid (ready_at w from)
+carried w from Gossip = GossipOf (received_at w from)
 
 -- a replica accepts a call: it receives the new acceptance
 abbrev pub accepts : {Op : Type 0} → Facts Op → ℕ → Spot → LabelledCall Op → Facts Op
@@ -103,16 +112,22 @@ got_read w (Client client) (DoneReply cid names) = takes_reply w client names
 got_read w (Client client) (AnswerReply cid names) = takes_reply w client names
 got_read w _ _ = w
 
+-- the facts after `take`: a replica that gossip came to receives what it carries
+abbrev pub take_read : {Op : Type 0} → Facts Op → Actor → Carried Op → Facts Op
+take_read w (Replica i) (GossipOf names) = record w { received = put_at i (w.received i ∪ names) w.received }
+take_read w _ _ = w
+
 -- the facts where a message came, if one did
 abbrev pub with_message : {Op : Type 0} → Facts Op → Option (SentMessage Op) → (Actor → Carried Op → Facts Op) → Facts Op
 with_message w None change = w
 with_message w (Some x) change = change x.to x.what
 
--- the facts after a line: all but these four change nothing
+-- the facts after a line: all but these five change nothing
 abbrev pub line_read : {Op : Type 0} → Option (SentMessage Op) → Facts Op → Outcome → Facts Op
 line_read x w (Send number from to what) = record w { messages = record { number = number; from = from; to = to; what = carried w from what } ∷ w.messages }
 line_read x w (Accept spot cid) = with_message w x (accept_read w spot)
 line_read x w (Hold cid) = with_message w x (hold_read w)
+line_read x w (Take count) = with_message w x (take_read w)
 line_read x w (Got cid) = with_message w x (got_read w)
 line_read x w (Stale cid) = w
 line_read x w (NoMessage message) = w

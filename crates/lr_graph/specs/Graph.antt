@@ -27,6 +27,7 @@ pub data Carried (Op : Type 0) : Type 0 where
   QueryCopy : (call : LabelledCall Op) → Carried Op
   DoneReply : (cid : Cid) (names : SpotSet) → Carried Op
   AnswerReply : (cid : Cid) (names : SpotSet) → Carried Op
+  GossipOf : (names : SpotSet) → Carried Op
   Blank : Carried Op
 
 -- a message that was sent

@@ -4,11 +4,11 @@ use Rattle.lr_base.specs.Kinds.{is_query}
 use Rattle.lr_base.specs.Meaning.{Meaning}
 use Rattle.lr_base.specs.Rules.{same_cid}
 use Rattle.lr_base.specs.declared.events.Event.{Event}
-use Rattle.lr_base.specs.declared.events.Event.TheVariants.{Call, Deliver, Show}
+use Rattle.lr_base.specs.declared.events.Event.TheVariants.{Call, Deliver, Gossip as GossipEvent, Show}
 use Rattle.lr_base.specs.declared.events.Outcome.{Outcome}
-use Rattle.lr_base.specs.declared.events.Outcome.TheVariants.{Send, Accept, Hold, Got, Stale, NoMessage, Refuse, State}
+use Rattle.lr_base.specs.declared.events.Outcome.TheVariants.{Send, Accept, Hold, Take, Got, Stale, NoMessage, Refuse, State}
 use Rattle.lr_base.specs.declared.events.Refusal.TheVariants.{Again, FullLog, FullHeld, Unfinished, Worn}
-use Rattle.lr_base.specs.declared.events.Sent.TheVariants.{Update, Query, Done, Answer}
+use Rattle.lr_base.specs.declared.events.Sent.TheVariants.{Update, Query, Done, Answer, Gossip}
 use Rattle.lr_base.specs.declared.events.StateLine.{StateLine}
 use Rattle.lr_base.specs.declared.events.Step.{Step}
 use Rattle.lr_base.specs.declared.names.Actor.{Actor}
@@ -17,7 +17,7 @@ use Rattle.lr_base.specs.declared.names.Cid.{Cid}
 use Rattle.lr_base.specs.declared.names.Config.{Config}
 use Rattle.lr_base.specs.declared.names.Spot.{Spot}
 use Rattle.lr_graph.specs.After.{after, delivered, event_read, lines_read, next_call, stepping}
-use Rattle.lr_graph.specs.Graph.{Carried, Facts, LabelledCall, SentMessage, UpdateCopy, QueryCopy, DoneReply, AnswerReply, calls_of, counts, first_facts, is_within, kept_spot, least_spot, made, ready, size_of, spots_of, value}
+use Rattle.lr_graph.specs.Graph.{Carried, Facts, LabelledCall, SentMessage, UpdateCopy, QueryCopy, DoneReply, AnswerReply, GossipOf, calls_of, counts, first_facts, is_within, kept_spot, least_spot, made, ready, size_of, spots_of, value}
 use Rattle.lr_graph.specs.Sets.{SpotSet}
 
 -- the number of the next message
@@ -75,10 +75,15 @@ abbrev pub reply_line : {Op : Type 0} → Option (LabelledCall Op) → Cid → O
 reply_line None cid = Stale cid
 reply_line (Some call) cid = if same_cid call.cid cid then Got cid else Stale cid
 
+-- gossip is taken: so many of the acceptances that it carries weren't received before
+abbrev pub take_line : {Op : Type 0} → Facts Op → ℕ → SpotSet → Outcome
+take_line w i names = Take (size_of w.accepted (λ spot. names spot && not (w.received i spot)))
+
 -- a message comes to an actor: what has no rule there changes nothing
 abbrev pub message_lines : {Value Op : Type 0} → Meaning Value Op → Config → Facts Op → Actor → Carried Op → List Outcome
 message_lines m config w (Replica i) (UpdateCopy call time) = update_lines config w i call.cid (taken_at config w i call.cid (kept_spot (w.kept i) call.cid))
 message_lines m config w (Replica i) (QueryCopy call) = query_lines m w i call (is_within w.accepted call.label (w.received i)) (nat_lt (length (w.held i)) 1024)
+message_lines m config w (Replica i) (GossipOf names) = take_line w i names ∷ []
 message_lines m config w (Client client) (DoneReply cid names) = reply_line (w.front client).open_call cid ∷ []
 message_lines m config w (Client client) (AnswerReply cid names) = reply_line (w.front client).open_call cid ∷ []
 message_lines m config w _ _ = []
@@ -108,6 +113,7 @@ own_lines m config w (Call client replica reading op) =
     let front = w.front client in
     call_lines m w client replica (max front.clock reading) op front.open_call (front.calls == 2 ^ 62)
 own_lines m config w (Deliver message) = delivery_lines m config w message (delivered w (Deliver message))
+own_lines m config w (GossipEvent from to) = Send (next_number w) (Replica from) (Replica to) Gossip ∷ []
 own_lines m config w (Show replica) = State (state_line_of config w replica) ∷ []
 
 -- each held query whose label is now received is answered, in the order of arrival
