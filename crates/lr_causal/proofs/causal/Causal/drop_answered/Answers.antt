@@ -2,7 +2,6 @@ use Rattle.std.proofs.Common.{◌≡◌, ap, rules}
 use Rattle.std.specs.Prelude.{filter, not}
 use Rattle.std.proofs.lemmas.Fn.{filter_same}
 use Rattle.lr_base.specs.Stamps.{stamp_le}
-use Rattle.lr_base.specs.declared.messages.Call.{Call}
 use Rattle.lr_causal.specs.State.{state_of}
 use Rattle.lr_causal.proofs.causal.Causal.drop_answered.Goals as goal
 
