@@ -1,5 +1,5 @@
 -- An end of the simulation, told.
-use Rattle.std.proofs.Common.{◌≡◌, ◌≤◌, ¬◌, ◌⊎◌, inl, inr, ℕ, List, [], refl, sym, ap, subst}
+use Rattle.std.proofs.Common.{◌≡◌, ◌≤◌, ◌⊎◌, inl, inr, ℕ, List, [], refl, sym, ap, subst}
 use Rattle.std.specs.Prelude.{Option}
 use Rattle.std.specs.Io.KnownBytes.{Appends}
 use Rattle.std.proofs.KnownBytes.{Appends-nil}

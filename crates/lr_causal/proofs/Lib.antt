@@ -1,4 +1,5 @@
 mod Facts
+mod Labels
 mod Logs
 mod Ready
 mod Tables

@@ -1,6 +1,7 @@
 //! The causal part of a replica.
 ghost use Rattle.std.specs.Prelude.{◌≡◌, ◌+◌, ◌<◌, ◌≤◌, length, replicate, IfOk};
 ghost use Rattle.lr_base.specs.Config.{IsValid};
+ghost use Rattle.lr_base.specs.Stamps.{part, stamp_le};
 ghost use Rattle.lr_causal.specs.Causal.{AllLogged, AllKnown};
 
 use crate::applying::apply_logged;
@@ -46,6 +47,7 @@ impl<S: Service> Causal<S> {
     ghost use Rattle.lr_base.specs.Kinds.{IsQuery, IsUpdate};
     ghost use Rattle.lr_base.specs.Rules.{accepted, answer_of, applied, pruned, first_state, fresh_of, held_more, known_of, same_cid, stamp_of, taken_before, update_of_call};
     ghost use Rattle.lr_base.specs.Stamps.{part};
+    ghost use Rattle.lr_base.specs.Steps.{still_held};
     ghost use Rattle.lr_causal.specs.State.{config_of, me_of, state_of};
 
     /// A replica at which nothing has happened.
@@ -314,6 +316,38 @@ impl<S: Service> Causal<S> {
         self.held.push(copied)?;
         Ok(())
     }
+
+    /// Drops the held queries whose label is applied. It takes no memory.
+    pub fn drop_answered(&mut self)
+        ensures state { state_of self.new ≡ still_held (state_of self.old) }
+        ensures config { config_of self.new ≡ config_of self.old }
+        ensures me { me_of self.new ≡ me_of self.old }
+    {
+        let val_ts = self.value.val_ts();
+        self.held.retain(|call| !is_applied(&call.prev, val_ts));
+    }
+}
+
+// Whether all that a label names is applied to a value with this stamp.
+fn is_applied(label: &Stamp, val_ts: &Stamp) -> bool
+    ensures { result ≡ stamp_le label.now val_ts.now }
+{
+    for place in 0..label.parts() {
+        if label.part(place) > part_or_zero(val_ts, place) {
+            return false;
+        }
+    }
+    true
+}
+
+// The part at a place, where one past the end is 0.
+fn part_or_zero(stamp: &Stamp, place: u8) -> u64
+    ensures { result ≡ part stamp.now place }
+{
+    if place < stamp.parts() {
+        return stamp.part(place);
+    }
+    0
 }
 
 // A stamp of zeros for each replica.

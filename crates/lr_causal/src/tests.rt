@@ -87,6 +87,31 @@ fn read_x(
     }
 }
 
+// Holds the client's query of this number, with a label.
+fn hold(
+    rt: &impl Abort,
+    alloc: Global,
+    replica: &mut Causal<Tally>,
+    seq: u64,
+    label: &[u64; 4],
+) -> Result<(), Fail> {
+    let call = Call {
+        cid: cid(seq),
+        prev: stamp(rt, replica.config().replicas, label),
+        op: Tally::read_op(alloc, b"read x")?,
+    };
+    Ok(replica.hold(&call)?)
+}
+
+// The numbers of the held queries, in their order.
+fn held(alloc: Global, replica: &Causal<Tally>) -> Result<Vec<u64>, Fail> {
+    let mut seqs = Vec::new(alloc);
+    for call in replica.held() {
+        seqs.push(call.cid.seq)?;
+    }
+    Ok(seqs)
+}
+
 // The numbers of the client's calls that were executed, in their order.
 fn executed(alloc: Global, replica: &Causal<Tally>) -> Result<Vec<u64>, Fail> {
     let mut seqs = Vec::new(alloc);
@@ -349,5 +374,34 @@ fn answers_wait_for_what_a_label_names(rt: HostRuntime) -> Result<(), Fail> {
             }
         }
     }
+    Ok(())
+}
+
+#[test]
+fn queries_are_held_until_their_labels_are_applied(rt: HostRuntime) -> Result<(), Fail> {
+    let mut replica = replica(&rt, rt.alloc(), 3, 0)?;
+    accept(&rt, rt.alloc(), &mut replica, 1, &[0, 0, 0, 0], "add x 1")?;
+    let queries = [
+        (2, [1, 0, 0, 0]),
+        (3, [2, 0, 0, 0]),
+        (4, [0, 0, 0, 0]),
+        (5, [1, 0, 0, 1]),
+        (6, [1, 0, 0, 0]),
+    ];
+    for (seq, label) in queries {
+        hold(&rt, rt.alloc(), &mut replica, seq, &label)?;
+    }
+    assert_eq!(rt;
+        held(rt.alloc(), &replica)?.as_slice(),
+        [2, 3, 4, 5, 6].as_slice()
+    );
+    replica.drop_answered();
+    assert_eq!(rt;
+        held(rt.alloc(), &replica)?.as_slice(),
+        [2, 3, 5, 6].as_slice()
+    );
+    replica.settle()?;
+    replica.drop_answered();
+    assert_eq!(rt; held(rt.alloc(), &replica)?.as_slice(), [3, 5].as_slice());
     Ok(())
 }

@@ -26,22 +26,26 @@ pub struct Replica<S: Service> {
 impl<S: Service> Model for Replica<S> {
     ghost use Rattle.lr_causal.specs.State.{config_of, me_of, state_of};
     ghost use Rattle.lr_base.specs.Replicas.{ReplicaState};
+    ghost use Rattle.lr_sim.specs.Asked.{AllAsked};
 
     ghost Value = { ReplicaState S S.Op };
 
     ghost view = { λ it. record { config = config_of it.causal; me = me_of it.causal; causal = state_of it.causal } };
+
+    ghost invariant = { λ it. AllAsked S.Op.kind_of (config_of it.causal) (state_of it.causal).held };
 }
 
 impl<S: Service> Replica<S> {
-    ghost use Rattle.std.specs.Prelude.{◌≡◌, ◌+◌, ◌<◌, None, length, map, IsTrue, IfOk, OnOk};
+    ghost use Rattle.std.specs.Prelude.{◌≡◌, ◌+◌, ◌<◌, ◌++◌, length, map, nat_lt, IfOk, OnOk};
     ghost use Rattle.lr_base.specs.Config.{IsValid};
-    ghost use Rattle.lr_base.specs.Kinds.{IsQuery, IsUpdate};
-    ghost use Rattle.lr_base.specs.declared.names.Actor.TheVariants.{Client};
+    ghost use Rattle.lr_base.specs.Kinds.{IsUpdate};
+    ghost use Rattle.lr_base.specs.Stamps.{stamp_le};
     ghost use Rattle.lr_base.specs.Ascending.{ascending};
+    ghost use Rattle.lr_sim.specs.Asked.{IsAsked};
     ghost use Rattle.lr_sim.specs.Shapes.{AllFitting, IsShaped};
-    ghost use Rattle.lr_base.specs.Rules.{answer_of, fresh_of};
+    ghost use Rattle.lr_base.specs.Rules.{fresh_of};
     ghost use Rattle.lr_base.specs.Replicas.{first_replica, state_line_of};
-    ghost use Rattle.lr_base.specs.Steps.{call_taken, has_number, has_room, query_held, query_taken, taken, update_taken};
+    ghost use Rattle.lr_base.specs.Steps.{call_taken, ended, has_number, has_room, held_acts, own_taken, query_held, query_taken, taken, update_taken};
 
     /// A replica at which nothing has happened.
     pub fn new(alloc: Global, config: Config, me: u8) -> Result<Self, NoMemory>
@@ -62,16 +66,30 @@ impl<S: Service> Replica<S> {
         ensures did { IfOk result (λ acts. acts.items ≡ (taken S.meaning self.old.config self.old.me self.old.causal message.now).acts) }
         ensures state { OnOk result (self.new.causal ≡ (taken S.meaning self.old.config self.old.me self.old.causal message.now).state) }
     {
+        let mut acts = self.take_own(message)?;
+        self.end_step(&mut acts)?;
+        Ok(acts)
+    }
+
+    fn allocator(&self) -> Global {
+        self.causal.allocator()
+    }
+
+    // What the message itself does.
+    fn take_own(&mut self, message: &Message<S::Op>) -> Result<Acts<S::Op>, NoMemory>
+        requires { IsShaped S.Op.kind_of self.old.config message.now }
+        ensures acts { IfOk result (λ acts. AllFitting S.Op.kind_of self.old.config acts.items) }
+        ensures setting { self.new.config ≡ self.old.config }
+        ensures number { self.new.me ≡ self.old.me }
+        ensures did { IfOk result (λ acts. acts.items ≡ (own_taken S.meaning self.old.config self.old.me self.old.causal message.now).acts) }
+        ensures state { OnOk result (self.new.causal ≡ (own_taken S.meaning self.old.config self.old.me self.old.causal message.now).state) }
+    {
         match message {
             Message::Update { call, time } => self.take_update(call, *time),
             Message::Query { call } => self.take_query(call),
             // A reply has no rule at a replica.
             _ => Ok(no_act(self.allocator())),
         }
-    }
-
-    fn allocator(&self) -> Global {
-        self.causal.allocator()
     }
 
     // The first checks of an update.
@@ -82,8 +100,8 @@ impl<S: Service> Replica<S> {
         ensures acts { IfOk result (λ acts. AllFitting S.Op.kind_of self.old.config acts.items) }
         ensures setting { self.new.config ≡ self.old.config }
         ensures number { self.new.me ≡ self.old.me }
-        ensures did { IfOk result (λ acts. acts.items ≡ (update_taken S.meaning self.old.config.replicas self.old.me self.old.causal call.now (fresh_of self.old.config.delta self.old.causal call.now.cid time)).acts) }
-        ensures state { OnOk result (self.new.causal ≡ (update_taken S.meaning self.old.config.replicas self.old.me self.old.causal call.now (fresh_of self.old.config.delta self.old.causal call.now.cid time)).state) }
+        ensures did { IfOk result (λ acts. acts.items ≡ (update_taken self.old.me self.old.causal call.now (fresh_of self.old.config.delta self.old.causal call.now.cid time)).acts) }
+        ensures state { OnOk result (self.new.causal ≡ (update_taken self.old.me self.old.causal call.now (fresh_of self.old.config.delta self.old.causal call.now.cid time)).state) }
     {
         match self.causal.fresh(call.cid, time) {
             Fresh::Late { time, clock } => refused(self.allocator(), Refusal::Late { time, clock }),
@@ -105,8 +123,8 @@ impl<S: Service> Replica<S> {
         ensures acts { IfOk result (λ acts. AllFitting S.Op.kind_of self.old.config acts.items) }
         ensures setting { self.new.config ≡ self.old.config }
         ensures number { self.new.me ≡ self.old.me }
-        ensures did { IfOk result (λ acts. acts.items ≡ (call_taken S.meaning self.old.config.replicas self.old.me self.old.causal call.now (has_room self.old.causal) (has_number self.old.me self.old.causal)).acts) }
-        ensures state { OnOk result (self.new.causal ≡ (call_taken S.meaning self.old.config.replicas self.old.me self.old.causal call.now (has_room self.old.causal) (has_number self.old.me self.old.causal)).state) }
+        ensures did { IfOk result (λ acts. acts.items ≡ (call_taken self.old.me self.old.causal call.now (has_room self.old.causal) (has_number self.old.me self.old.causal)).acts) }
+        ensures state { OnOk result (self.new.causal ≡ (call_taken self.old.me self.old.causal call.now (has_room self.old.causal) (has_number self.old.me self.old.causal)).state) }
     {
         if !self.causal.log().has_room() {
             return refused(self.allocator(), Refusal::FullLog);
@@ -115,7 +133,6 @@ impl<S: Service> Replica<S> {
             return refused(self.allocator(), Refusal::Worn);
         }
         let (spot, stamp) = self.causal.accept(call)?;
-        self.causal.settle()?;
         let cid = call.cid;
         let line = Outcome::Accept { spot, cid };
         replied(self.allocator(), line, cid, spot, stamp)
@@ -123,36 +140,88 @@ impl<S: Service> Replica<S> {
 
     // A query is answered, or held until all that its label names is applied.
     fn take_query(&mut self, call: &Call<S::Op>) -> Result<Acts<S::Op>, NoMemory>
-        requires parts { length call.now.prev ≡ self.old.config.replicas + 1 }
-        requires client { call.now.cid.client < self.old.config.clients }
-        requires query { IsQuery (S.Op.kind_of call.now.op) }
+        requires { IsAsked S.Op.kind_of self.old.config call.now }
         ensures acts { IfOk result (λ acts. AllFitting S.Op.kind_of self.old.config acts.items) }
         ensures setting { self.new.config ≡ self.old.config }
         ensures number { self.new.me ≡ self.old.me }
-        ensures did { IfOk result (λ acts. acts.items ≡ (query_taken self.old.causal call.now (answer_of S.meaning self.old.causal.value self.old.causal.val_ts call.now.prev call.now.op)).acts) }
-        ensures state { OnOk result (self.new.causal ≡ (query_taken self.old.causal call.now (answer_of S.meaning self.old.causal.value self.old.causal.val_ts call.now.prev call.now.op)).state) }
+        ensures did { IfOk result (λ acts. acts.items ≡ (query_taken S.meaning self.old.causal call.now (stamp_le call.now.prev self.old.causal.val_ts)).acts) }
+        ensures state { OnOk result (self.new.causal ≡ (query_taken S.meaning self.old.causal call.now (stamp_le call.now.prev self.old.causal.val_ts)).state) }
     {
         match self.causal.read(&call.prev, &call.op)? {
             Some(text) => {
-                let stamp = self.causal.val_ts().copy();
-                answered(self.allocator(), call.cid, text, stamp)
+                let mut acts = no_act(self.allocator());
+                self.send_answer(call.cid, text, &mut acts)?;
+                Ok(acts)
             }
             None => self.hold(call),
         }
     }
 
     fn hold(&mut self, call: &Call<S::Op>) -> Result<Acts<S::Op>, NoMemory>
+        requires { IsAsked S.Op.kind_of self.old.config call.now }
         ensures acts { IfOk result (λ acts. AllFitting S.Op.kind_of self.old.config acts.items) }
         ensures setting { self.new.config ≡ self.old.config }
         ensures number { self.new.me ≡ self.old.me }
-        ensures did { IfOk result (λ acts. acts.items ≡ (query_taken self.old.causal call.now None).acts) }
-        ensures state { OnOk result (self.new.causal ≡ (query_taken self.old.causal call.now None).state) }
+        ensures did { IfOk result (λ acts. acts.items ≡ (query_held self.old.causal call.now (nat_lt (length self.old.causal.held) 1024)).acts) }
+        ensures state { OnOk result (self.new.causal ≡ (query_held self.old.causal call.now (nat_lt (length self.old.causal.held) 1024)).state) }
     {
         if self.causal.held().len() >= HELD_ROOM {
             return refused(self.allocator(), Refusal::FullHeld);
         }
         self.causal.hold(call)?;
         say(self.allocator(), Outcome::Hold { cid: call.cid })
+    }
+
+    // Ends a step: what is ready is applied, and then held queries are answered, behind what the step did.
+    fn end_step(&mut self, acts: &mut Acts<S::Op>) -> Result<(), NoMemory>
+        requires { AllFitting S.Op.kind_of self.old.config acts.old.items }
+        ensures acts { OnOk result (AllFitting S.Op.kind_of self.old.config acts.new.items) }
+        ensures setting { self.new.config ≡ self.old.config }
+        ensures number { self.new.me ≡ self.old.me }
+        ensures did { OnOk result (acts.new.items ≡ (ended S.meaning self.old.config.replicas self.old.causal acts.old.items).acts) }
+        ensures state { OnOk result (self.new.causal ≡ (ended S.meaning self.old.config.replicas self.old.causal acts.old.items).state) }
+    {
+        self.causal.settle()?;
+        self.answer_held(acts)?;
+        self.causal.drop_answered();
+        Ok(())
+    }
+
+    // Each held query whose label is now applied is answered.
+    fn answer_held(&self, acts: &mut Acts<S::Op>) -> Result<(), NoMemory>
+        requires { AllFitting S.Op.kind_of self.now.config acts.old.items }
+        ensures acts { OnOk result (AllFitting S.Op.kind_of self.now.config acts.new.items) }
+        ensures did { OnOk result (acts.new.items ≡ acts.old.items ++ held_acts S.meaning self.now.causal self.now.causal.held) }
+    {
+        for call in self.causal.held() {
+            self.answer(call, acts)?;
+        }
+        Ok(())
+    }
+
+    // A query is answered if its label is applied.
+    fn answer(&self, call: &Call<S::Op>, acts: &mut Acts<S::Op>) -> Result<(), NoMemory>
+        requires asked { IsAsked S.Op.kind_of self.now.config call.now }
+        requires fitting { AllFitting S.Op.kind_of self.now.config acts.old.items }
+        ensures acts { OnOk result (AllFitting S.Op.kind_of self.now.config acts.new.items) }
+        ensures did { OnOk result (acts.new.items ≡ acts.old.items ++ held_acts S.meaning self.now.causal (call.now ∷ [])) }
+    {
+        match self.causal.read(&call.prev, &call.op)? {
+            Some(text) => self.send_answer(call.cid, text, acts),
+            None => Ok(()),
+        }
+    }
+
+    // Sends what a query is answered.
+    fn send_answer(&self, cid: Cid, text: Text, acts: &mut Acts<S::Op>) -> Result<(), NoMemory>
+        requires client { cid.client < self.now.config.clients }
+        requires fitting { AllFitting S.Op.kind_of self.now.config acts.old.items }
+        ensures acts { OnOk result (AllFitting S.Op.kind_of self.now.config acts.new.items) }
+        ensures did { OnOk result (acts.new.items ≡ acts.old.items ++ Act.Send (Actor.Client cid.client) (Message.Answer cid text self.now.causal.val_ts) ∷ []) }
+    {
+        let stamp = self.causal.val_ts().copy();
+        let to = Actor::Client(cid.client);
+        send(acts, to, Message::Answer { cid, text, stamp })
     }
 
     /// What is printed of its state.
@@ -239,20 +308,5 @@ fn replied<O: Operation>(
     Ok(acts)
 }
 
-// The reply to a query.
-fn answered<O: Operation>(
-    alloc: Global,
-    cid: Cid,
-    text: Text,
-    stamp: Stamp,
-) -> Result<Acts<O>, NoMemory>
-    ensures { IfOk result (λ acts. acts.items ≡ Act.Send (Actor.Client cid.client) (Message.Answer cid text stamp) ∷ []) }
-{
-    let mut acts = no_act(alloc);
-    send(
-        &mut acts,
-        Actor::Client(cid.client),
-        Message::Answer { cid, text, stamp },
-    )?;
-    Ok(acts)
-}
+#[cfg(test)]
+mod tests;

@@ -10,7 +10,9 @@ use crate::acts::Acts;
 use crate::front::{CallFault, Front, Taken};
 use crate::replica::Replica;
 use lr_base::lr_service::{Operation, Service};
-use lr_base::{Act, Actor, Cid, Config, Event, Message, NoMemory, Outcome, Posted, Refusal, Rows, Sent};
+use lr_base::{
+    Act, Actor, Cid, Config, Event, Message, NoMemory, Outcome, Posted, Refusal, Rows, Sent,
+};
 use std::alloc::Global;
 
 /// The replicas, a front end for each client, and the messages, each of which may be delivered at any time.

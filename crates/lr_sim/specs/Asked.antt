@@ -1,0 +1,17 @@
+-- What a replica keeps of the queries that it holds.
+use Rattle.std.specs.Prelude.{◌≡◌, ◌+◌, ◌<◌, ℕ, List, length, slice_get}
+use Rattle.std.specs.Option.{ForSome}
+use Rattle.lr_base.specs.Kinds.{IsQuery}
+use Rattle.lr_base.specs.declared.lr_service.Kind.{Kind}
+use Rattle.lr_base.specs.declared.messages.Call.{Call}
+use Rattle.lr_base.specs.declared.names.Config.{Config}
+
+-- a query of this run: its label has a part for each place, its client is one of the run's, and it only reads
+pub record IsAsked {Op : Type 0} (kind_of : Op → Kind) (config : Config) (call : Call Op) : Type 0 where
+  pub parts : length call.prev ≡ config.replicas + 1
+  pub client : call.cid.client < config.clients
+  pub query : IsQuery (kind_of call.op)
+
+-- each of these is a query of this run
+abbrev pub AllAsked : {Op : Type 0} → (Op → Kind) → Config → List (Call Op) → Type 0
+AllAsked kind_of config calls = (k : ℕ) → ForSome (slice_get calls k) (IsAsked kind_of config)
