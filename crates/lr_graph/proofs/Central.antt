@@ -27,7 +27,7 @@ below-set l sound a member = record { exist = below-made l sound a member; close
 
 module _ {Op : Type 0} (l : List (Acceptance Op)) (sound : IsSound l) (r : SpotSet) (rep : List ℕ) (counted : IsCounted r rep) (v : List ℕ) (ready_names : Names v (ready l r)) where
   -- the greatest ready spot of a place is received
-  top-received : (place : ℕ) → 0 < part v place → part v place ≤ part rep place
+  pub top-received : (place : ℕ) → 0 < part v place → part v place ≤ part rep place
   top-received place some =
       counted-most r rep counted (spot_at place (part v place)) (ready-received l r _ (ready_names.reached place some))
 

@@ -27,7 +27,7 @@ use Rattle.lr_graph.proofs.Keys.{keys-applied}
 use Rattle.lr_graph.proofs.Members.{each-from, each-map}
 use Rattle.lr_graph.proofs.Posting.{message-sent, posting}
 use Rattle.lr_graph.proofs.ReadySets.{holds-ready, ready-closed, ready-holds}
-use Rattle.lr_graph.proofs.Relation.{IsReplicaAt, IsShared, IsStill, SameCall, SameHeld, SameList}
+use Rattle.lr_graph.proofs.Relation.{IsReplicaAt, IsShared, IsStill, SameCall, SameHeld, SameList, same_answer}
 use Rattle.lr_graph.proofs.Ties.{HasApplied, IsPending}
 
 -- a replica within its step, at which more may be ready than is applied
@@ -124,7 +124,7 @@ module _ {Value Op : Type 0} (m : Meaning Value Op) (config : Config) (w : Facts
         at_head true true q out in_first =
             subst (λ (ps : List (Posted Op)). HasSent (lines_read x (record w { messages = sent ∷ messages }) (answers m w (suc k) i cs)) ps) (append_assoc posted (post ∷ []) (act_posts (Replica i) (held_acts m now ds)))
             (in_first (message-sent m config issued (record w { messages = messages }) fronts posted shared sent post e
-            (record { to = ap (λ (cid : Cid). Client cid.client) h.0.call.cid; there = h.0.client; what = (h.0.call.cid, names, ready-set w.accepted sound (w.received i)) })))
+            (record { from = refl; to = ap (λ (cid : Cid). Client cid.client) h.0.call.cid; way = tt; there = h.0.client; what = same_answer c.cid d.cid (ready w.accepted (w.received i)) _ now.val_ts h.0.call.cid names (ready-set w.accepted sound (w.received i)) })))
         at_head false false q out in_first = out
         at_head true false q out in_first = absurd (true≢false q)
         at_head false true q out in_first = absurd (true≢false (sym q))

@@ -6,15 +6,14 @@ use Rattle.lr_base.specs.Fronts.{FrontState}
 use Rattle.lr_base.specs.Meaning.{Meaning}
 use Rattle.lr_base.specs.declared.acts.Posted.{Posted}
 use Rattle.lr_base.specs.declared.messages.Message.{Message}
-use Rattle.lr_base.specs.declared.messages.Message.TheVariants.{Answer, Done, Query, Update}
 use Rattle.lr_base.specs.declared.names.Cid.{Cid}
 use Rattle.lr_base.specs.declared.names.Config.{Config}
-use Rattle.lr_graph.specs.Graph.{Acceptance, AnswerReply, Blank, Carried, DoneReply, Facts, FrontFacts, LabelledCall, QueryCopy, SentMessage, UpdateCopy}
+use Rattle.lr_graph.specs.Graph.{Acceptance, Carried, Facts, FrontFacts, LabelledCall, SentMessage}
 use Rattle.lr_graph.specs.Runs.{RunState, message_at}
-use Rattle.lr_graph.specs.Sets.{put_at}
+use Rattle.lr_graph.specs.Sets.{SpotSet, put_at}
 use Rattle.lr_graph.proofs.Members.{each-map}
 use Rattle.lr_graph.proofs.Places.{slice-set_other, slice-set_same}
-use Rattle.lr_graph.proofs.Relation.{HasFront, IsAcceptance, IsIssued, IsOpen, IsSame, IsShared, SameCarried, SameFront, SameMessage, SameOption, calls_in}
+use Rattle.lr_graph.proofs.Relation.{HasFront, IsAcceptance, IsIssued, IsOpen, IsSame, IsShared, SameCarried, SameFront, SameMessage, SameOption, calls_in, same_answer, same_done, same_gossip, same_query, same_update}
 use Rattle.lr_graph.proofs.Stepping.{put-other, put-same}
 use Rattle.lr_graph.proofs.Tests.{equal-or-not}
 
@@ -41,33 +40,18 @@ module _ {Value Op : Type 0} (m : Meaning Value Op) (config : Config) (l : List 
     plain = h.plain;
   }
 
-  carried-issued : (x : Carried Op) (p : Message Op) → SameCarried m config.clients l issued calls x p → SameCarried m config.clients l more after x p
-  carried-issued (UpdateCopy e t) (Update f time) h = (h.0, h.1, issued-more e h.2, h.3, h.4)
-  carried-issued (QueryCopy e) (Query f) h = (h.0, issued-more e h.1)
-  carried-issued (DoneReply cid names) (Done other at stamp) h = h
-  carried-issued (AnswerReply cid names) (Answer other text stamp) h = h
-  carried-issued (UpdateCopy e t) (Query f) h = absurd h
-  carried-issued (UpdateCopy e t) (Done other at stamp) h = absurd h
-  carried-issued (UpdateCopy e t) (Answer other text stamp) h = absurd h
-  carried-issued (QueryCopy e) (Update f time) h = absurd h
-  carried-issued (QueryCopy e) (Done other at stamp) h = absurd h
-  carried-issued (QueryCopy e) (Answer other text stamp) h = absurd h
-  carried-issued (DoneReply cid names) (Update f time) h = absurd h
-  carried-issued (DoneReply cid names) (Query f) h = absurd h
-  carried-issued (DoneReply cid names) (Answer other text stamp) h = absurd h
-  carried-issued (AnswerReply cid names) (Update f time) h = absurd h
-  carried-issued (AnswerReply cid names) (Query f) h = absurd h
-  carried-issued (AnswerReply cid names) (Done other at stamp) h = absurd h
-  carried-issued Blank (Update f time) h = absurd h
-  carried-issued Blank (Query f) h = absurd h
-  carried-issued Blank (Done other at stamp) h = absurd h
-  carried-issued Blank (Answer other text stamp) h = absurd h
+  carried-issued : (received : ℕ → SpotSet) (x : Carried Op) (p : Message Op) → SameCarried m config l received issued calls x p → SameCarried m config l received more after x p
+  carried-issued received x p (same_update e f t time call times by update plain) = same_update e f t time call times (issued-more e by) update plain
+  carried-issued received x p (same_query e f call by) = same_query e f call (issued-more e by)
+  carried-issued received x p (same_done cid other names at stamp cids named set) = same_done cid other names at stamp cids named set
+  carried-issued received x p (same_answer cid other names text stamp cids named set) = same_answer cid other names text stamp cids named set
+  carried-issued received x p (same_gossip names g h) = same_gossip names g h
 
-  option-issued : (o : Option (SentMessage Op)) (p : Option (Posted Op)) → SameOption (SameMessage m config l issued calls) o p → SameOption (SameMessage m config l more after) o p
-  option-issued None None h = tt
-  option-issued None (Some p) h = h
-  option-issued (Some x) None h = h
-  option-issued (Some x) (Some p) h = record { to = h.to; there = h.there; what = carried-issued x.what p.message h.what }
+  option-issued : (received : ℕ → SpotSet) (o : Option (SentMessage Op)) (p : Option (Posted Op)) → SameOption (SameMessage m config l received issued calls) o p → SameOption (SameMessage m config l received more after) o p
+  option-issued received None None h = tt
+  option-issued received None (Some p) h = h
+  option-issued received (Some x) None h = h
+  option-issued received (Some x) (Some p) h = record { from = h.from; to = h.to; way = h.way; there = h.there; what = carried-issued received x.what p.message h.what }
 
 module _ {Value Op : Type 0} (m : Meaning Value Op) (config : Config) (w : Facts Op) (v : RunState Value Op) (same : IsSame m config w v) (client : ℕ) (here : client < config.clients)
     (before : FrontState) (there : slice_get v.fronts client ≡ Some before) where
@@ -83,7 +67,7 @@ module _ {Value Op : Type 0} (m : Meaning Value Op) (config : Config) (w : Facts
     fronts_are = fronts;
     opened = opened_all;
     count = same.shared.count;
-    messages = λ n. option-issued m config w.accepted same.issued more (calls_in w) after agree grows (find (λ y. y.number == n) w.messages) (message_at v.posted n) (same.shared.messages n);
+    messages = λ n. option-issued m config w.accepted same.issued more (calls_in w) after agree grows w.received (find (λ y. y.number == n) w.messages) (message_at v.posted n) (same.shared.messages n);
   }
     where
       after : ℕ → ℕ

@@ -127,7 +127,7 @@ module _ {Value Op : Type 0} (m : Meaning Value Op) (config : Config) where
       );
       opened = λ client. tt;
       count = refl;
-      messages = λ n. subst (λ o. SameOption (SameMessage m config [] (λ cid. None) (λ client. 0)) None o) (sym (none_sent n)) tt;
+      messages = λ n. subst (λ o. SameOption (SameMessage m config [] (λ i. nothing) (λ cid. None) (λ client. 0)) None o) (sym (none_sent n)) tt;
     };
     replicas = λ i within. (
       first_state m config.replicas (config.replicas + 1),

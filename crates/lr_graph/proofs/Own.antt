@@ -26,7 +26,7 @@ use Rattle.lr_graph.proofs.Central.{below-set}
 use Rattle.lr_graph.proofs.Ending.{IsMid, ready-set}
 use Rattle.lr_graph.proofs.Members.{each-at}
 use Rattle.lr_graph.proofs.Posting.{message-sent, posting}
-use Rattle.lr_graph.proofs.Relation.{IsReplicaAt, IsShared, IsTied, SameCall}
+use Rattle.lr_graph.proofs.Relation.{IsReplicaAt, IsShared, IsTied, SameCall, same_answer, same_done}
 use Rattle.lr_graph.proofs.Stepping.{IsOwnPart}
 use Rattle.lr_graph.proofs.Tests.{same_spot-self}
 
@@ -73,7 +73,7 @@ module _ {Value Op : Type 0} (m : Meaning Value Op) (config : Config) (issued : 
   own-again cid client a member spot other is same stamp names = record {
     lines = λ k. Refuse (Again (same k)) ∷ Send (next_is k) (Replica i) (Client cid.client) (DoneSent cid (same k)) ∷ [];
     shared = message-sent m config issued w v.fronts v.posted shared sent (posting (Replica i) (Client cid.client) (Done cid other stamp)) next_is
-        (record { to = refl; there = client; what = (refl, subst (Names stamp) (sym below) names, subst (λ (y : SpotSet). Rattle.lr_graph.specs.Closed.IsSetOf w.accepted y) (sym below) (below-set w.accepted shared.sound a member)) });
+        (record { from = refl; to = refl; way = tt; there = client; what = same_done cid cid (below_of w.accepted spot) other stamp refl (subst (Names stamp) (sym below) names) (subst (λ (y : SpotSet). Rattle.lr_graph.specs.Closed.IsSetOf w.accepted y) (sym below) (below-set w.accepted shared.sound a member)) });
     mid = unchanged-mid m config (record w { messages = sent ∷ w.messages }) i state shared.sound ok;
     others = others;
   }
@@ -90,7 +90,7 @@ module _ {Value Op : Type 0} (m : Meaning Value Op) (config : Config) (issued : 
   own-answered c d same client = record {
     lines = λ k. Send (next_is k) (Replica i) (Client (same.cid k).client) (AnswerSent (same.cid k) (m.read (sym ok.applied.value_is k) (same.op k))) ∷ [];
     shared = message-sent m config issued w v.fronts v.posted shared sent (posting (Replica i) (Client d.cid.client) (Answer d.cid (m.read state.value d.op) state.val_ts)) next_is
-        (record { to = ap (λ (cid : Cid). Client cid.client) same.cid; there = client; what = (same.cid, ok.applied.names, ready-set w.accepted shared.sound (w.received i)) });
+        (record { from = refl; to = ap (λ (cid : Cid). Client cid.client) same.cid; way = tt; there = client; what = same_answer c.cid d.cid (ready w.accepted (w.received i)) _ state.val_ts same.cid ok.applied.names (ready-set w.accepted shared.sound (w.received i)) });
     mid = unchanged-mid m config (record w { messages = sent ∷ w.messages }) i state shared.sound ok;
     others = others;
   }

@@ -15,24 +15,24 @@ use Rattle.lr_base.specs.declared.messages.Fresh.TheVariants.{Late}
 use Rattle.lr_base.specs.declared.messages.Known.{Known}
 use Rattle.lr_base.specs.declared.messages.LogUpdate.{LogUpdate}
 use Rattle.lr_base.specs.declared.messages.Message.{Message}
-use Rattle.lr_base.specs.declared.messages.Message.TheVariants.{Answer, Done, Query, Update}
 use Rattle.lr_base.specs.declared.names.Actor.{Actor}
-use Rattle.lr_base.specs.declared.names.Actor.TheVariants.{Replica}
+use Rattle.lr_base.specs.declared.names.Actor.TheVariants.{Client, Replica}
 use Rattle.lr_base.specs.declared.names.Cid.{Cid}
 use Rattle.lr_base.specs.declared.names.Config.{Config}
 use Rattle.lr_base.specs.declared.names.Spot.{Spot}
-use Rattle.lr_graph.specs.Graph.{AnswerReply, Blank, Carried, DoneReply, Facts, LabelledCall, QueryCopy, SentMessage, UpdateCopy, is_within, kept_spot, least_spot, made, size_of}
+use Rattle.lr_graph.specs.Graph.{Carried, Facts, LabelledCall, QueryCopy, SentMessage, UpdateCopy, is_within, kept_spot, least_spot, made, size_of}
 use Rattle.lr_graph.specs.Legal.{accept_lines, done_line, logged, message_lines, query_lines, taken_at, update_lines}
 use Rattle.lr_graph.specs.Names.{spot_at}
 use Rattle.lr_graph.specs.Runs.{RunState}
 use Rattle.lr_graph.proofs.Central.{stamp_le-within}
+use Rattle.lr_graph.proofs.GossipSteps.{own-taken}
 use Rattle.lr_graph.proofs.LeastLogged.{least-find}
 use Rattle.lr_graph.proofs.Listing.{size-log}
 use Rattle.lr_graph.proofs.Members.{each-at, find-some}
-use Rattle.lr_graph.proofs.Own.{own-again, own-answered, own-nothing, own-refused}
+use Rattle.lr_graph.proofs.Own.{own-again, own-answered, own-refused}
 use Rattle.lr_graph.proofs.ReadySets.{update-stamp}
 use Rattle.lr_graph.proofs.Receiving.{own-accepted, own-held, spot}
-use Rattle.lr_graph.proofs.Relation.{IsIssued, IsReplicaAt, IsShared, IsTied, SameCall, SameCarried, SameList, calls_in}
+use Rattle.lr_graph.proofs.Relation.{IsIssued, IsReplicaAt, IsShared, IsTied, IsWay, SameCall, SameCarried, SameList, calls_in, same_answer, same_done, same_gossip, same_query, same_update}
 use Rattle.lr_graph.proofs.Stepping.{IsOwnPart}
 use Rattle.lr_graph.proofs.Tallying.{made-count}
 use Rattle.lr_graph.proofs.Tests.{never}
@@ -157,27 +157,24 @@ module _ {Value Op : Type 0} (m : Meaning Value Op) (config : Config) (issued : 
         (λ k. cond (sym late k) (Late time state.clock) (fresh_when (taken_before (known_of state.calls d.cid) (find (λ u. same_cid u.cid d.cid) state.updates)) (sym acks k)))
         (own-known (known_of state.calls d.cid) (kept_spot (w.kept i) c.cid) refl kept)
 
-  -- ---- any message
+-- ---- any message
 
-  pub own-part : (what : Carried Op) (message : Message Op) → SameCarried m config.clients w.accepted issued (calls_in w) what message
-      → IsOwnPart m config issued w v i (came what) (message_lines m config w (Replica i) what) (own_taken m config i state message)
-  own-part (UpdateCopy c t) (Update d time) h = own-update c d h.0 h.2 h.3 h.4 t time
-  own-part (QueryCopy c) (Query d) h = own-query c d h.0 h.1
-  own-part (DoneReply cid names) (Done other at stamp) h = own-nothing m config issued w v shared i state ok others (came (DoneReply cid names))
-  own-part (AnswerReply cid names) (Answer other text stamp) h = own-nothing m config issued w v shared i state ok others (came (AnswerReply cid names))
-  own-part (UpdateCopy e t) (Query f) h = absurd h
-  own-part (UpdateCopy e t) (Done other at stamp) h = absurd h
-  own-part (UpdateCopy e t) (Answer other text stamp) h = absurd h
-  own-part (QueryCopy e) (Update f time) h = absurd h
-  own-part (QueryCopy e) (Done other at stamp) h = absurd h
-  own-part (QueryCopy e) (Answer other text stamp) h = absurd h
-  own-part (DoneReply cid names) (Update f time) h = absurd h
-  own-part (DoneReply cid names) (Query f) h = absurd h
-  own-part (DoneReply cid names) (Answer other text stamp) h = absurd h
-  own-part (AnswerReply cid names) (Update f time) h = absurd h
-  own-part (AnswerReply cid names) (Query f) h = absurd h
-  own-part (AnswerReply cid names) (Done other at stamp) h = absurd h
-  own-part Blank (Update f time) h = absurd h
-  own-part Blank (Query f) h = absurd h
-  own-part Blank (Done other at stamp) h = absurd h
-  own-part Blank (Answer other text stamp) h = absurd h
+module _ {Value Op : Type 0} (m : Meaning Value Op) (config : Config) (issued : Cid → Option (LabelledCall Op)) (w : Facts Op) (v : RunState Value Op) (shared : IsShared m config issued w v.fronts v.posted)
+    (i : ℕ) (here : i < config.replicas) (state : CausalState Value Op) (ok : IsReplicaAt m config w.accepted (w.received i) (logged config w i) (w.kept i) (w.held i) state)
+    (others : (j : ℕ) → j ≢ i → j < config.replicas → IsTied m config w v.replicas j) (number : ℕ) where
+  -- the message and where it comes from
+  abbrev CameFrom : Actor → Carried Op → List Outcome → Ending Value Op → Type 0
+  CameFrom from what lines end = IsOwnPart m config issued w v i (Some (record { number = number; from = from; to = Replica i; what = what })) lines end
+
+  pub own-part : (from : Actor) (what : Carried Op) (message : Message Op) → IsWay from (Replica i) what → SameCarried m config w.accepted w.received issued (calls_in w) what message
+      → CameFrom from what (message_lines m config w (Replica i) what) (own_taken m config i state from message)
+  own-part (Client f) what message way (same_update c d t time call times by update plain) = own-update m config issued w v shared i here state ok others number (Client f) c d call by update plain t time
+  own-part (Client f) what message way (same_query c d call by) = own-query m config issued w v shared i here state ok others number (Client f) c d call by
+  own-part (Replica k) what message way (same_gossip names g same) = own-taken m config issued w v shared i here state ok others number k way names g same
+  own-part (Client f) what message way (same_done cid other names at stamp cids named set) = absurd way
+  own-part (Client f) what message way (same_answer cid other names text stamp cids named set) = absurd way
+  own-part (Client f) what message way (same_gossip names g same) = absurd way
+  own-part (Replica k) what message way (same_update c d t time call times by update plain) = absurd way
+  own-part (Replica k) what message way (same_query c d call by) = absurd way
+  own-part (Replica k) what message way (same_done cid other names at stamp cids named set) = absurd way
+  own-part (Replica k) what message way (same_answer cid other names text stamp cids named set) = absurd way

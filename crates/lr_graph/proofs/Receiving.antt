@@ -12,14 +12,14 @@ use Rattle.lr_base.specs.declared.events.Outcome.TheVariants.{Accept, Hold, Send
 use Rattle.lr_base.specs.declared.events.Sent.TheVariants.{Done as DoneSent}
 use Rattle.lr_base.specs.declared.messages.Call.{Call}
 use Rattle.lr_base.specs.declared.messages.Message.{Message}
-use Rattle.lr_base.specs.declared.messages.Message.TheVariants.{Answer, Done, Query, Update}
+use Rattle.lr_base.specs.declared.messages.Message.TheVariants.{Done}
 use Rattle.lr_base.specs.declared.names.Actor.{Actor}
 use Rattle.lr_base.specs.declared.names.Actor.TheVariants.{Client, Replica}
 use Rattle.lr_base.specs.declared.names.Cid.{Cid}
 use Rattle.lr_base.specs.declared.names.Config.{Config}
 use Rattle.lr_base.specs.declared.names.Spot.{Spot}
 use Rattle.lr_graph.specs.Closed.{IsAmong, IsMade, IsSetOf, IsSound}
-use Rattle.lr_graph.specs.Graph.{Acceptance, AnswerReply, Blank, Carried, DoneReply, Facts, LabelledCall, QueryCopy, SentMessage, UpdateCopy, below_of, ready}
+use Rattle.lr_graph.specs.Graph.{Acceptance, Carried, DoneReply, Facts, LabelledCall, QueryCopy, SentMessage, UpdateCopy, below_of, ready}
 use Rattle.lr_graph.specs.Legal.{done_line, logged, next_number}
 use Rattle.lr_graph.specs.Names.{Names, spot_at}
 use Rattle.lr_graph.specs.Runs.{RunState, message_at}
@@ -27,11 +27,11 @@ use Rattle.lr_graph.specs.Sets.{SpotSet, only, put_at, same_spot, ◌∪◌}
 use Rattle.lr_graph.proofs.Accepting.{accept-pending, made_at, new-causes, new-stands, next-fresh, sound-more}
 use Rattle.lr_graph.proofs.Central.{below-set}
 use Rattle.lr_graph.proofs.Ending.{IsMid}
-use Rattle.lr_graph.proofs.More.{call-more, held-more, not-in, replica-more, set-more}
+use Rattle.lr_graph.proofs.More.{call-more, held-more, log-more, not-in, replica-more, set-more}
 use Rattle.lr_graph.proofs.Own.{unchanged-mid}
 use Rattle.lr_graph.proofs.Posting.{message-sent, posting}
 use Rattle.lr_graph.proofs.ReadySets.{update-stamp}
-use Rattle.lr_graph.proofs.Relation.{IsAcceptance, IsIssued, IsReplicaAt, IsShared, IsTied, SameCall, SameCarried, SameHeld, SameList, SameMessage, SameOption, calls_in}
+use Rattle.lr_graph.proofs.Relation.{IsAcceptance, IsIssued, IsReplicaAt, IsShared, IsTied, SameCall, SameCarried, SameHeld, SameList, SameMessage, SameOption, calls_in, same_answer, same_done, same_gossip, same_query, same_update}
 use Rattle.lr_graph.proofs.Stepping.{IsOwnPart, put-other, put-same}
 use Rattle.lr_graph.proofs.Tests.{or-cases, or-left, or-right, same_spot-is, same_spot-self}
 use Rattle.lr_graph.proofs.Ties.{IsPending}
@@ -63,7 +63,7 @@ module _ {Value Op : Type 0} (m : Meaning Value Op) (config : Config) (issued : 
       fronts_are = s.fronts_are;
       opened = s.opened;
       count = s.count ∙ ap length (sym (append-nil v.posted));
-      messages = subst (λ (ps : List (Posted Op)). (n : ℕ) → SameOption (SameMessage m config w.accepted issued (calls_in w)) (find (λ y. y.number == n) w.messages) (message_at ps n)) (sym (append-nil v.posted)) s.messages;
+      messages = subst (λ (ps : List (Posted Op)). (n : ℕ) → SameOption (SameMessage m config w.accepted w.received issued (calls_in w)) (find (λ y. y.number == n) w.messages) (message_at ps n)) (sym (append-nil v.posted)) s.messages;
     };
     mid = let mid = unchanged-mid m config w i state shared.sound ok in record {
       logs = mid.logs;
@@ -132,43 +132,34 @@ module _ {Value Op : Type 0} (m : Meaning Value Op) (config : Config) (issued : 
     plain = plain;
   }
 
-  carried-more : (x : Carried Op) (p : Message Op) → SameCarried m config.clients l issued (calls_in w) x p → SameCarried m config.clients (a ∷ l) issued (calls_in w) x p
-  carried-more (UpdateCopy e t) (Update f time) h = (call-more l a fresh shared.sound e f h.0, h.1, h.2, h.3, h.4)
-  carried-more (QueryCopy e) (Query f) h = (call-more l a fresh shared.sound e f h.0, h.1)
-  carried-more (DoneReply cid names) (Done other at stamp) h = (h.0, h.1, set-more l a fresh shared.sound names h.2)
-  carried-more (AnswerReply cid names) (Answer other text stamp) h = (h.0, h.1, set-more l a fresh shared.sound names h.2)
-  carried-more (UpdateCopy e t) (Query f) h = absurd h
-  carried-more (UpdateCopy e t) (Done other at stamp) h = absurd h
-  carried-more (UpdateCopy e t) (Answer other text stamp) h = absurd h
-  carried-more (QueryCopy e) (Update f time) h = absurd h
-  carried-more (QueryCopy e) (Done other at stamp) h = absurd h
-  carried-more (QueryCopy e) (Answer other text stamp) h = absurd h
-  carried-more (DoneReply cid names) (Update f time) h = absurd h
-  carried-more (DoneReply cid names) (Query f) h = absurd h
-  carried-more (DoneReply cid names) (Answer other text stamp) h = absurd h
-  carried-more (AnswerReply cid names) (Update f time) h = absurd h
-  carried-more (AnswerReply cid names) (Query f) h = absurd h
-  carried-more (AnswerReply cid names) (Done other at stamp) h = absurd h
-  carried-more Blank p h = absurd (none p h)
-    where
-      none : (p : Message Op) → SameCarried m config.clients l issued (calls_in w) Blank p → ⊥
-      none (Update f time) h = h
-      none (Query f) h = h
-      none (Done other at stamp) h = h
-      none (Answer other text stamp) h = h
-
-  option-more : (o : Option (SentMessage Op)) (p : Option (Posted Op)) → SameOption (SameMessage m config l issued (calls_in w)) o p → SameOption (SameMessage m config (a ∷ l) issued (calls_in w)) o p
-  option-more None None h = tt
-  option-more None (Some p) h = h
-  option-more (Some x) None h = h
-  option-more (Some x) (Some p) h = record { to = h.to; there = h.there; what = carried-more x.what p.message h.what }
-
   received-grows : (j : ℕ) (s : Spot) → w.received j s ≡ true → w1.received j s ≡ true
   received-grows j s e = by_place (j == i) refl
     where
       by_place : (t : Bool) → (j == i) ≡ t → cond t (w.received i ∪ only spot) (w.received j) s ≡ true
       by_place true q = or-left (w.received i s) _ (ap (λ k. w.received k s) (sym (eqb-true j i q)) ∙ e)
       by_place false q = e
+
+  carried-more : (x : Carried Op) (p : Message Op) → SameCarried m config l w.received issued (calls_in w) x p → SameCarried m config (a ∷ l) w1.received issued (calls_in w) x p
+  carried-more x p (same_update e f t time call times by update plain) = same_update e f t time (call-more l a fresh shared.sound e f call) times by update plain
+  carried-more x p (same_query e f call by) = same_query e f (call-more l a fresh shared.sound e f call) by
+  carried-more x p (same_done cid other names at stamp cids named set) = same_done cid other names at stamp cids named (set-more l a fresh shared.sound names set)
+  carried-more x p (same_answer cid other names text stamp cids named set) = same_answer cid other names text stamp cids named (set-more l a fresh shared.sound names set)
+  carried-more x p (same_gossip names g h) = same_gossip names g (record {
+    logs = h.logs;
+    counted = h.counted;
+    exist = λ s e. (let b = h.exist s e in (b.0, inr b.1, b.2));
+    log = log-more l a fresh h.logs g.updates (not-in l a fresh h.logs (λ s e. h.exist s (h.within s e))) h.log;
+    within = h.within;
+    elsewhere = λ s e out j within. received-grows j s (h.elsewhere s e out j within);
+    acks = h.acks;
+    parts = h.parts;
+  })
+
+  option-more : (o : Option (SentMessage Op)) (p : Option (Posted Op)) → SameOption (SameMessage m config l w.received issued (calls_in w)) o p → SameOption (SameMessage m config (a ∷ l) w1.received issued (calls_in w)) o p
+  option-more None None h = tt
+  option-more None (Some p) h = h
+  option-more (Some x) None h = h
+  option-more (Some x) (Some p) h = record { from = h.from; to = h.to; way = h.way; there = h.there; what = carried-more x.what p.message h.what }
 
   shared_accepted : IsShared m config issued w1 v.fronts v.posted
   shared_accepted = record {
@@ -230,7 +221,7 @@ module _ {Value Op : Type 0} (m : Meaning Value Op) (config : Config) (issued : 
 
   shared_sent : IsShared m config issued (record w1 { messages = sent ∷ w.messages }) v.fronts (v.posted ++ posting (Replica i) (Client d.cid.client) (Done d.cid spot stamp) ∷ [])
   shared_sent = message-sent m config issued w1 v.fronts v.posted shared_accepted sent (posting (Replica i) (Client d.cid.client) (Done d.cid spot stamp)) (let n = shared.count in omega arith)
-      (record { to = ap (λ (cid : Cid). Client cid.client) same.cid; there = is_issued.client; what = (same.cid, subst (Names stamp) (sym below_is) stamp_names, subst (λ (y : SpotSet). IsSetOf (a ∷ l) y) (sym below_is) (below-set (a ∷ l) sound a (inl refl))) })
+      (record { from = refl; to = ap (λ (cid : Cid). Client cid.client) same.cid; way = tt; there = is_issued.client; what = same_done c.cid d.cid (below_of w1.accepted spot) spot stamp same.cid (subst (Names stamp) (sym below_is) stamp_names) (subst (λ (y : SpotSet). IsSetOf (a ∷ l) y) (sym below_is) (below-set (a ∷ l) sound a (inl refl))) })
 
   mid_accepted : IsMid m config (record w1 { messages = sent ∷ w.messages }) i after_it
   mid_accepted = record {

@@ -10,16 +10,17 @@ use Rattle.lr_base.specs.Rules.{CausalState, same_cid}
 use Rattle.lr_base.specs.Stamps.{part}
 use Rattle.lr_base.specs.declared.acts.Posted.{Posted}
 use Rattle.lr_base.specs.declared.messages.Call.{Call}
+use Rattle.lr_base.specs.declared.messages.Gossip.{Gossip}
 use Rattle.lr_base.specs.declared.messages.Known.{Known}
 use Rattle.lr_base.specs.declared.messages.Message.{Message}
-use Rattle.lr_base.specs.declared.messages.Message.TheVariants.{Update, Query, Done, Answer}
+use Rattle.lr_base.specs.declared.messages.Message.TheVariants.{Update, Query, Done, Answer, Gossip as GossipMessage}
 use Rattle.lr_base.specs.declared.names.Actor.{Actor}
 use Rattle.lr_base.specs.declared.names.Actor.TheVariants.{Client, Replica}
 use Rattle.lr_base.specs.declared.names.Cid.{Cid}
 use Rattle.lr_base.specs.declared.names.Config.{Config}
 use Rattle.lr_base.specs.declared.names.Spot.{Spot}
 use Rattle.lr_graph.specs.Closed.{Each, IsAmong, IsMade, IsSetOf, IsSound, causes}
-use Rattle.lr_graph.specs.Graph.{Acceptance, AnswerReply, Carried, DoneReply, Facts, FrontFacts, Kept, LabelledCall, QueryCopy, SentMessage, UpdateCopy, ready}
+use Rattle.lr_graph.specs.Graph.{Acceptance, AnswerReply, GossipOf, Carried, DoneReply, Facts, FrontFacts, Kept, LabelledCall, QueryCopy, SentMessage, UpdateCopy, ready}
 use Rattle.lr_graph.specs.Legal.{logged}
 use Rattle.lr_graph.specs.Names.{IsCounted, Names}
 use Rattle.lr_graph.specs.Runs.{RunState, message_at}
@@ -53,13 +54,33 @@ pub record IsIssued {Op : Type 0} (clients : ℕ) (issued : Cid → Option (Labe
   pub number : c.cid.seq ≤ calls c.cid.client
   pub client : c.cid.client < clients
 
+-- gossip counts the acceptances that it names; its log has some of them, and the rest were received everywhere
+pub record SameGossip {Op : Type 0} (replicas : ℕ) (l : List (Acceptance Op)) (received : ℕ → SpotSet) (names : SpotSet) (g : Gossip Op) : Type 0 where
+  pub logs : SpotSet
+  pub counted : IsCounted names g.rep_ts
+  pub exist : (s : Spot) → names s ≡ true → IsMade l s
+  pub log : IsLogOf l logs g.updates
+  pub within : (s : Spot) → logs s ≡ true → names s ≡ true
+  pub elsewhere : (s : Spot) → names s ≡ true → logs s ≡ false → (j : ℕ) → j < replicas → received j s ≡ true
+  pub acks : g.acks ≡ []
+  pub parts : length g.rep_ts ≡ replicas + 1
+
 -- a message of the rules carries what this one of the graph does
-abbrev pub SameCarried : {Value Op : Type 0} → Meaning Value Op → ℕ → List (Acceptance Op) → (Cid → Option (LabelledCall Op)) → (ℕ → ℕ) → Carried Op → Message Op → Type 0
-SameCarried m clients l issued calls (UpdateCopy c t) (Update d time) = SameCall l c d × (t ≡ time) × IsIssued clients issued calls c × IsUpdate (m.kind c.op) × IsPlain (m.kind c.op)
-SameCarried m clients l issued calls (QueryCopy c) (Query d) = SameCall l c d × IsIssued clients issued calls c
-SameCarried m clients l issued calls (DoneReply cid names) (Done other spot stamp) = (cid ≡ other) × Names stamp names × IsSetOf l names
-SameCarried m clients l issued calls (AnswerReply cid names) (Answer other text stamp) = (cid ≡ other) × Names stamp names × IsSetOf l names
-SameCarried m clients l issued calls _ _ = ⊥
+pub data SameCarried {Value Op : Type 0} (m : Meaning Value Op) (config : Config) (l : List (Acceptance Op)) (received : ℕ → SpotSet) (issued : Cid → Option (LabelledCall Op)) (calls : ℕ → ℕ) : Carried Op → Message Op → Type 0 where
+  same_update : (c : LabelledCall Op) (d : Call Op) (t time : ℕ) → SameCall l c d → t ≡ time → IsIssued config.clients issued calls c → IsUpdate (m.kind c.op) → IsPlain (m.kind c.op) → SameCarried m config l received issued calls (UpdateCopy c t) (Update d time)
+  same_query : (c : LabelledCall Op) (d : Call Op) → SameCall l c d → IsIssued config.clients issued calls c → SameCarried m config l received issued calls (QueryCopy c) (Query d)
+  same_done : (cid other : Cid) (names : SpotSet) (spot : Spot) (stamp : List ℕ) → cid ≡ other → Names stamp names → IsSetOf l names → SameCarried m config l received issued calls (DoneReply cid names) (Done other spot stamp)
+  same_answer : (cid other : Cid) (names : SpotSet) (text stamp : List ℕ) → cid ≡ other → Names stamp names → IsSetOf l names → SameCarried m config l received issued calls (AnswerReply cid names) (Answer other text stamp)
+  same_gossip : (names : SpotSet) (g : Gossip Op) → SameGossip config.replicas l received names g → SameCarried m config l received issued calls (GossipOf names) (GossipMessage g)
+
+-- such a message goes from such an actor to such a one: gossip from a replica to another
+abbrev pub IsWay : {Op : Type 0} → Actor → Actor → Carried Op → Type 0
+IsWay (Client f) (Replica i) (UpdateCopy c t) = Unit {0}
+IsWay (Client f) (Replica i) (QueryCopy c) = Unit {0}
+IsWay (Replica i) (Client f) (DoneReply cid names) = Unit {0}
+IsWay (Replica i) (Client f) (AnswerReply cid names) = Unit {0}
+IsWay (Replica k) (Replica i) (GossipOf names) = (k == i) ≡ false
+IsWay _ _ _ = ⊥
 
 -- there is such an actor
 abbrev pub IsThere : Config → Actor → Type 0
@@ -67,10 +88,12 @@ IsThere config (Client client) = client < config.clients
 IsThere config (Replica replica) = replica < config.replicas
 
 -- a message of the rules is this one of the graph
-pub record SameMessage {Value Op : Type 0} (m : Meaning Value Op) (config : Config) (l : List (Acceptance Op)) (issued : Cid → Option (LabelledCall Op)) (calls : ℕ → ℕ) (x : SentMessage Op) (p : Posted Op) : Type 0 where
+pub record SameMessage {Value Op : Type 0} (m : Meaning Value Op) (config : Config) (l : List (Acceptance Op)) (received : ℕ → SpotSet) (issued : Cid → Option (LabelledCall Op)) (calls : ℕ → ℕ) (x : SentMessage Op) (p : Posted Op) : Type 0 where
+  pub from : x.from ≡ p.from
   pub to : x.to ≡ p.to
+  pub way : IsWay x.from x.to x.what
   pub there : IsThere config x.to
-  pub what : SameCarried m config.clients l issued calls x.what p.message
+  pub what : SameCarried m config l received issued calls x.what p.message
 
 -- ---- front ends
 
@@ -119,7 +142,7 @@ pub record IsShared {Value Op : Type 0} (m : Meaning Value Op) (config : Config)
   pub fronts_are : (client : ℕ) → client < config.clients → HasFront w.accepted fronts client (w.front client)
   pub opened : (client : ℕ) → IsOpen config.clients issued (calls_in w) (w.front client).open_call
   pub count : length w.messages ≡ length posted
-  pub messages : (n : ℕ) → SameOption (SameMessage m config w.accepted issued (calls_in w)) (find (λ x. x.number == n) w.messages) (message_at posted n)
+  pub messages : (n : ℕ) → SameOption (SameMessage m config w.accepted w.received issued (calls_in w)) (find (λ x. x.number == n) w.messages) (message_at posted n)
 
 -- ---- replicas
 
