@@ -10,13 +10,16 @@ use Rattle.lr_base.specs.declared.acts.Act.{Act}
 use Rattle.lr_base.specs.declared.acts.Act.TheVariants.{Send}
 use Rattle.lr_base.specs.declared.lr_service.Kind.{Kind}
 use Rattle.lr_base.specs.declared.messages.Call.{Call}
-use Rattle.lr_base.specs.declared.messages.Message.TheVariants.{Answer}
-use Rattle.lr_base.specs.declared.names.Actor.TheVariants.{Client}
+use Rattle.lr_base.specs.declared.messages.Message.{Message}
+use Rattle.lr_base.specs.declared.messages.Message.TheVariants.{Answer, Gossip as GossipMessage}
+use Rattle.lr_base.specs.declared.messages.Gossip.{Gossip}
+use Rattle.lr_base.specs.declared.names.Actor.TheVariants.{Client, Replica}
 use Rattle.lr_base.specs.declared.names.Cid.{Cid}
 use Rattle.lr_base.specs.declared.names.Config.{Config}
-use Rattle.lr_sim.proofs.Everywhere.{each-push}
+use Rattle.lr_causal.specs.Causal.{IsGossip, IsLogged}
+use Rattle.lr_sim.proofs.Everywhere.{each-none, each-push}
 use Rattle.lr_sim.specs.Asked.{AllAsked, IsAsked}
-use Rattle.lr_sim.specs.Shapes.{AllFitting, IsFitting}
+use Rattle.lr_sim.specs.Shapes.{AllFitting, IsFitting, IsShaped}
 
 module _ {Op : Type 0} (kind_of : Op → Kind) (config : Config) where
   -- acts that may be done, behind others
@@ -52,7 +55,7 @@ module _ {Op E : Type 0} (kind_of : Op → Kind) (config : Config) where
   AllFitting-answer (Err e) acts now cid text stamp is fitting client parts = tt
   AllFitting-answer (Ok x) acts now cid text stamp is fitting client parts =
       let own : IsFitting kind_of config (Send (Client cid.client) (Answer cid text stamp)) =
-      record { to_known = lt-ltb cid.client config.clients client; shaped = record { parts = parts; client = client; kind = refl } } in
+      record { to_known = lt-ltb cid.client config.clients client; shaped = record { parts = parts; client = lt-ltb cid.client config.clients client; kind = refl; logged = λ k. each-none (λ (k : ℕ) u. IsLogged kind_of (config.replicas + 1) u) k } } in
       subst (AllFitting kind_of config) (sym is) (AllFitting-append kind_of config acts (Send (Client cid.client) (Answer cid text stamp) ∷ []) fitting (own, tt))
 
 module _ {Value Op : Type 0} (m : Meaning Value Op) where
@@ -84,3 +87,17 @@ module _ {Value Op : Type 0} (m : Meaning Value Op) where
       let next' : take (k + 1) held ≡ take k held ++ call ∷ [] = subst (λ (calls : List (Call Op)). take (k + 1) calls ≡ take k calls ++ call ∷ []) same next in
       let joined : held_acts m state (take (k + 1) held) ≡ held_acts m state (take k held) ++ held_acts m state (call ∷ []) = ap (held_acts m state) next' ∙ held_acts-more state (take k held) call in
       more ∙ ap (λ (xs : List (Act Op)). xs ++ held_acts m state (call ∷ [])) so_far ∙ append_assoc before (held_acts m state (take k held)) (held_acts m state (call ∷ [])) ∙ ap (λ (xs : List (Act Op)). before ++ xs) (sym joined)
+
+module _ {Op : Type 0} (kind_of : Op → Kind) (config now : Config) (same : config ≡ now) where
+  -- gossip of this run can be taken
+  pub IsGossip-shaped : (message : Message Op) (gossip : Gossip Op) → message ≡ GossipMessage gossip → IsShaped kind_of now message → IsGossip kind_of (config.replicas + 1) gossip
+  IsGossip-shaped message gossip is shaped =
+      let own : IsShaped kind_of now (GossipMessage gossip) = subst (IsShaped kind_of now) is shaped in
+      subst (λ (c : Config). IsGossip kind_of (c.replicas + 1) gossip) (sym same) (record { rep_parts = own.parts; logged = own.logged })
+
+  -- and sent
+  pub AllFitting-gossip : (gossip : Gossip Op) (to : ℕ) (before after : List (Act Op)) → before ≡ [] → after ≡ before ++ Send (Replica to) (GossipMessage gossip) ∷ [] → to < now.replicas → IsGossip kind_of (config.replicas + 1) gossip → AllFitting kind_of now after
+  AllFitting-gossip gossip to before after none is within shape =
+      let own : IsGossip kind_of (now.replicas + 1) gossip = subst (λ (c : Config). IsGossip kind_of (c.replicas + 1) gossip) same shape in
+      subst (AllFitting kind_of now) (sym (is ∙ ap (λ (acts : List (Act Op)). acts ++ Send (Replica to) (GossipMessage gossip) ∷ []) none))
+      (record { to_known = lt-ltb to now.replicas within; shaped = record { parts = own.rep_parts; client = refl; kind = refl; logged = own.logged } }, tt)

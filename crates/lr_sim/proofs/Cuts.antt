@@ -12,7 +12,7 @@ use Rattle.lr_sim.specs.Texts.{config_text, service_text}
 use Rattle.lr_sim.specs.declared.script.Name.{Name}
 use Rattle.lr_sim.specs.declared.script.Name.TheVariants.{Tally}
 use Rattle.lr_sim.specs.declared.script.fields.EventWord.{EventWord}
-use Rattle.lr_sim.specs.declared.script.fields.EventWord.TheVariants.{Call, Deliver, Show}
+use Rattle.lr_sim.specs.declared.script.fields.EventWord.TheVariants.{Call, Deliver, Gossip, Show}
 use Rattle.lr_sim.proofs.Splits.{spaces-append, spaces_behind}
 
 pub all_head : (b r : Bool) → (b && r) ≡ true → b ≡ true
@@ -59,6 +59,7 @@ field_one f g r s e hf hg = cut_one (λ x. not (eqb x 32)) 32 refl f g r s e (sp
 pub word_spaceless : (word : EventWord) → spaces (word_text word) ≡ 0
 word_spaceless Call = refl
 word_spaceless Deliver = refl
+word_spaceless Gossip = refl
 word_spaceless Show = refl
 
 pub field_alone_is : (line field : List ℕ) (rest : Option (Bor (List ℕ))) → IsField line field rest → rest ≡ None → line ≡ field

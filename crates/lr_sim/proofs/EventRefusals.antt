@@ -1,21 +1,21 @@
 -- No event's line is refused.
-use Rattle.std.proofs.Common.{◌≡◌, ℕ, get_or, ◌<◌, ◌≤◌, ◌^◌, Bool, true, false, ◌&&◌, ◌||◌, eqb, leb, List, [], ◌∷◌, ◌++◌, refl, sym, ◌∙◌, ap, arith, inl, inr}
+use Rattle.std.proofs.Common.{◌≡◌, ℕ, get_or, ◌<◌, ◌≤◌, ◌≢◌, ◌^◌, Bool, true, false, ◌&&◌, ◌||◌, eqb, leb, List, [], ◌∷◌, ◌++◌, refl, sym, ◌∙◌, ap, arith, inl, inr}
 use Rattle.std.specs.List.{list_all, list_any}
 use Rattle.std.specs.Fmt.{decimal}
 use Rattle.std.proofs.lemmas.Fmt.{decimal_injective}
 use Rattle.std.proofs.lemmas.List.Folds.{list_any-append}
 use Rattle.lr_base.specs.Meaning.{Meaning, is_printable}
 use Rattle.lr_base.specs.declared.events.Event.{Event}
-use Rattle.lr_base.specs.declared.events.Event.TheVariants.{Call, Deliver, Show}
+use Rattle.lr_base.specs.declared.events.Event.TheVariants.{Call, Deliver, Gossip, Show}
 use Rattle.lr_base.specs.declared.names.Config.{Config}
 use Rattle.lr_sim.specs.declared.script.Cause.{Cause}
 use Rattle.lr_sim.specs.declared.script.Cause.TheVariants.{Unended, Byte, Fields, Number, Range, Op as NoOp}
 use Rattle.lr_sim.specs.declared.script.fields.EventWord.{EventWord}
-use Rattle.lr_sim.specs.declared.script.fields.EventWord.TheVariants.{Call as WCall, Deliver as WDeliver, Show as WShow}
-use Rattle.lr_sim.specs.Fields.{spaces, word_text, four_fields, IsCallFields}
+use Rattle.lr_sim.specs.declared.script.fields.EventWord.TheVariants.{Call as WCall, Deliver as WDeliver, Gossip as WGossip, Show as WShow}
+use Rattle.lr_sim.specs.Fields.{spaces, word_text, four_fields, IsCallFields, IsPair}
 use Rattle.lr_sim.specs.Script.{Fits, IsSetUp}
 use Rattle.lr_sim.specs.Texts.{event_text}
-use Rattle.lr_sim.specs.Faults.{IsNoLine, IsBadCall, IsBadDeliver, IsBadShow, IsBadFields, IsBadEvent, no_word, word_alone, bad_rest, IsBadLine, no_line, no_event}
+use Rattle.lr_sim.specs.Faults.{IsNoLine, IsBadCall, IsBadDeliver, IsBadGossip, IsBadShow, IsBadFields, IsBadEvent, no_word, word_alone, bad_rest, IsBadLine, no_line, no_event}
 use Rattle.lr_sim.proofs.Splits.{spaces_behind}
 use Rattle.lr_sim.proofs.Cuts.{all_head, all_tail, cut_one, field_one, number_spaceless}
 use Rattle.lr_sim.proofs.ShownTexts.{ArePrintable, event_printable}
@@ -59,34 +59,63 @@ no_line_refuted bytes line later _ e printable h = h
 event_word : {Op : Type 0} → Event Op → EventWord
 event_word (Call client replica reading op) = WCall
 event_word (Deliver message) = WDeliver
+event_word (Gossip from to) = WGossip
 event_word (Show replica) = WShow
 
 event_rest : {Value Op : Type 0} → Meaning Value Op → Event Op → List ℕ
 event_rest m (Call client replica reading op) = four_fields (decimal client) (decimal replica) (decimal reading) (m.text op)
 event_rest m (Deliver message) = decimal message
+event_rest m (Gossip from to) = decimal from ++ 32 ∷ decimal to
 event_rest m (Show replica) = decimal replica
 
 event_parts : {Value Op : Type 0} (m : Meaning Value Op) (event : Event Op) → event_text m event ≡ word_text (event_word event) ++ 32 ∷ event_rest m event
 unfolding event_word event_rest
 event_parts m (Call client replica reading op) = refl
 event_parts m (Deliver message) = refl
+event_parts m (Gossip from to) = refl
 event_parts m (Show replica) = refl
 
 word_spaces : (word : EventWord) → spaces (word_text word) ≡ 0
 word_spaces WCall = refl
 word_spaces WDeliver = refl
+word_spaces WGossip = refl
 word_spaces WShow = refl
 
+-- an event's word tells by its first byte
+first_byte : EventWord → ℕ
+first_byte WCall = 99
+first_byte WDeliver = 100
+first_byte WGossip = 103
+first_byte WShow = 115
+
+word_first : (word : EventWord) → get_or (word_text word) 0 0 ≡ first_byte word
+unfolding first_byte
+word_first WCall = refl
+word_first WDeliver = refl
+word_first WGossip = refl
+word_first WShow = refl
+
+first_one : (a b : EventWord) → first_byte a ≡ first_byte b → a ≡ b
+unfolding first_byte
+first_one WCall WCall e = refl
+first_one WDeliver WDeliver e = refl
+first_one WGossip WGossip e = refl
+first_one WShow WShow e = refl
+first_one WCall WDeliver e = absurd (omega arith)
+first_one WCall WGossip e = absurd (omega arith)
+first_one WCall WShow e = absurd (omega arith)
+first_one WDeliver WCall e = absurd (omega arith)
+first_one WDeliver WGossip e = absurd (omega arith)
+first_one WDeliver WShow e = absurd (omega arith)
+first_one WGossip WCall e = absurd (omega arith)
+first_one WGossip WDeliver e = absurd (omega arith)
+first_one WGossip WShow e = absurd (omega arith)
+first_one WShow WCall e = absurd (omega arith)
+first_one WShow WDeliver e = absurd (omega arith)
+first_one WShow WGossip e = absurd (omega arith)
+
 word_one : (a b : EventWord) → word_text a ≡ word_text b → a ≡ b
-word_one WCall WCall e = refl
-word_one WCall WDeliver e = cc
-word_one WCall WShow e = let first : true ≡ false = ap (λ (xs : List ℕ). eqb (get_or xs 0 0) 99) e in absurd (cc)
-word_one WDeliver WCall e = cc
-word_one WDeliver WDeliver e = refl
-word_one WDeliver WShow e = cc
-word_one WShow WCall e = let first : false ≡ true = ap (λ (xs : List ℕ). eqb (get_or xs 0 0) 99) e in absurd (cc)
-word_one WShow WDeliver e = cc
-word_one WShow WShow e = refl
+word_one a b e = first_one a b (sym (word_first a) ∙ ap (λ (xs : List ℕ). get_or xs 0 0) e ∙ word_first b)
 
 call_one : (fields c r t o c2 r2 t2 o2 : List ℕ) → IsCallFields fields c r t o → IsCallFields fields c2 r2 t2 o2 → (c ≡ c2) × (r ≡ r2) × (t ≡ t2) × (o ≡ o2)
 call_one fields c r t o c2 r2 t2 o2 a b =
@@ -139,6 +168,31 @@ deliver_refuted fields message fits e Fields h = let none : spaces fields ≡ 0 
 deliver_refuted fields message fits e Number h = h.1 message fits e
 deliver_refuted fields message fits e _ h = h
 
+pair_one : (fields a b c d : List ℕ) → IsPair fields a b → IsPair fields c d → (a ≡ c) × (b ≡ d)
+pair_one fields a b c d first second = field_one a c b d (sym first.text ∙ second.text) first.first_field second.first_field
+
+numbers_pair : (fields : List ℕ) (a b : ℕ) → a < 2 ^ 64 → b < 2 ^ 64 → fields ≡ decimal a ++ 32 ∷ decimal b → IsPair fields (decimal a) (decimal b)
+numbers_pair fields a b ha hb e = record { text = e; first_field = number_spaceless a ha; second_field = number_spaceless b hb }
+
+gossip_refuted : (config : Config) → IsSetUp config → (fields : List ℕ) (from to : ℕ) → from < config.replicas → to < config.replicas → from ≢ to → fields ≡ decimal from ++ 32 ∷ decimal to → (cause : Cause) → IsBadGossip config fields cause → ⊥
+gossip_refuted config set fields from to hf ht apart e Fields h =
+    let cut = numbers_pair fields from to (omega arith) (omega arith) e in
+    let one = spaces_behind fields (decimal from) (decimal to) e cut.first_field in
+    let none = cut.second_field in
+    h (omega arith)
+gossip_refuted config set fields from to hf ht apart e Number h =
+    let cut = numbers_pair fields from to (omega arith) (omega arith) e in
+    let one = pair_one fields h.first h.second _ _ h.split cut in
+    elim h.bad [ inl bad ↦ bad from (omega arith) one.0 | inr bad ↦ bad to (omega arith) one.1 ]
+gossip_refuted config set fields from to hf ht apart e Range h =
+    let cut = numbers_pair fields from to (omega arith) (omega arith) e in
+    let other = numbers_pair fields h.first h.second h.first_number h.second_number h.text in
+    let one = pair_one fields _ _ _ _ other cut in
+    let same_first : h.first ≡ from = decimal_injective h.first from h.first_number (omega arith) one.0 in
+    let same_second : h.second ≡ to = decimal_injective h.second to h.second_number (omega arith) one.1 in
+    elim h.bad [ inl bad ↦ absurd (omega arith) | inr more ↦ elim more [ inl bad ↦ absurd (omega arith) | inr bad ↦ apart (sym same_first ∙ bad ∙ same_second) ] ]
+gossip_refuted config set fields from to hf ht apart e _ h = h
+
 show_refuted : (config : Config) → IsSetUp config → (fields : List ℕ) (replica : ℕ) → replica < config.replicas → fields ≡ decimal replica → (cause : Cause) → IsBadShow config fields cause → ⊥
 show_refuted config set fields replica fits e Fields h = let none : spaces fields ≡ 0 = ap spaces e ∙ number_spaceless replica (omega arith) in omega (arith, h)
 show_refuted config set fields replica fits e Number h = h.1 replica (omega arith) e
@@ -155,6 +209,13 @@ fields_refuted m config set WShow (Call client replica reading op) same fits fie
 fields_refuted m config set WCall (Deliver message) same fits fields e cause h = cc
 fields_refuted m config set WDeliver (Deliver message) same fits fields e cause h = deliver_refuted fields message fits e cause h
 fields_refuted m config set WShow (Deliver message) same fits fields e cause h = cc
+fields_refuted m config set WGossip (Call client replica reading op) same fits fields e cause h = cc
+fields_refuted m config set WGossip (Deliver message) same fits fields e cause h = cc
+fields_refuted m config set WCall (Gossip from to) same fits fields e cause h = cc
+fields_refuted m config set WDeliver (Gossip from to) same fits fields e cause h = cc
+fields_refuted m config set WGossip (Gossip from to) same fits fields e cause h = gossip_refuted config set fields from to fits.0 fits.1 fits.2 e cause h
+fields_refuted m config set WShow (Gossip from to) same fits fields e cause h = cc
+fields_refuted m config set WGossip (Show replica) same fits fields e cause h = cc
 fields_refuted m config set WCall (Show replica) same fits fields e cause h = cc
 fields_refuted m config set WDeliver (Show replica) same fits fields e cause h = cc
 fields_refuted m config set WShow (Show replica) same fits fields e cause h = show_refuted config set fields replica fits e cause h

@@ -1,6 +1,6 @@
 -- Facts about every element of a list, by its index.
-use Rattle.std.proofs.Common.{◌≡◌, ℕ, zero, suc, List, [], ◌∷◌, ◌++◌, length, set, Some, None, subst, sym, cond, Bool, true, false, ◌<◌, get_or}
-use Rattle.std.proofs.lemmas.Option.{slice_get_read}
+use Rattle.std.proofs.Common.{◌≡◌, ℕ, zero, suc, List, [], ◌∷◌, ◌++◌, length, set, Some, None, subst, sym, cond, Bool, true, false, ◌<◌, get_or, ◌∙◌, Option, arith}
+use Rattle.std.proofs.lemmas.Option.{slice_get_past, slice_get_read}
 use Rattle.std.specs.Prelude.{slice_get}
 use Rattle.std.specs.Option.{ForSome}
 
@@ -32,3 +32,10 @@ module _ {X : Type 0} where
   -- an element that was read is one of them
   pub each-read : (xs : List X) (i : ℕ) (x : X) (P : ℕ → X → Type 0) → ((k : ℕ) → ForSome (slice_get xs k) (P k)) → (count : ℕ) → count ≡ length xs → i < count → x ≡ get_or xs i x → P i x
   each-read xs i x P all count long within is = all i x (slice_get_read xs count i x long within is)
+
+-- nothing is at no place
+pub each-none : {X : Type 0} (P : ℕ → X → Type 0) (k : ℕ) → ForSome (slice_get [] k) (P k)
+each-none {X} P k x e = absurd (none_some x (sym (slice_get_past [] k (omega arith)) ∙ e))
+  where
+    none_some : (x : X) → ◌≡◌ {A = Option X} None (Some x) → ⊥
+    none_some x e = cc

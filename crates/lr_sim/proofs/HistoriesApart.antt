@@ -6,7 +6,7 @@ use Rattle.std.proofs.lemmas.Bool.Decides.{nat_tests}
 use Rattle.std.proofs.lemmas.List.{append_cancel_left}
 use Rattle.std.proofs.lemmas.List.Elements.{All-head, All-tail}
 use Rattle.lr_base.specs.Meaning.{Meaning, Lawful, is_printable}
-use Rattle.lr_base.specs.declared.events.Event.TheVariants.{Call, Deliver, Show}
+use Rattle.lr_base.specs.declared.events.Event.TheVariants.{Call, Deliver, Gossip, Show}
 use Rattle.lr_base.specs.declared.events.Outcome.{Outcome}
 use Rattle.lr_base.specs.declared.events.Step.{Step}
 use Rattle.lr_base.specs.declared.lr_service.Kind.{Kind}
@@ -83,6 +83,12 @@ module _ {Value Op : Type 0} (m : Meaning Value Op) (kind_of : Op → Kind) (law
   event_apart (Show replica) (Show other) x y fa fb same =
       let last = number_last replica other x y fa fb (ap (drop 5) same) in
       (ap Show last.0, last.1)
+  event_apart (Gossip from to) (Gossip other target) x y fa fb same =
+      let first = number_first from other _ _ _ _ fa.0 fb.0 (ap (drop 7) same) refl refl in
+      let last = number_last to target x y fa.1 fb.1 (ap (drop 1) first.1) in
+      (λ i. Gossip (first.0 i) (last.0 i), last.1)
+  event_apart (Gossip _ _) _ x y fa fb same = unlike 0 _ _ refl same
+  event_apart _ (Gossip _ _) x y fa fb same = unlike 0 _ _ refl same
   event_apart (Call _ _ _ _) (Deliver _) x y fa fb same = unlike 0 _ _ refl same
   event_apart (Call _ _ _ _) (Show _) x y fa fb same = unlike 0 _ _ refl same
   event_apart (Deliver _) (Call _ _ _ _) x y fa fb same = unlike 0 _ _ refl same

@@ -1,9 +1,9 @@
 -- An outcome is told apart by its line.
 use Rattle.std.proofs.Common.{◌≡◌, ℕ, false, not, eqb, List, ◌∷◌, ◌++◌, drop, refl, ap}
 use Rattle.std.specs.Fmt.{decimal}
-use Rattle.lr_base.specs.declared.events.Outcome.TheVariants.{Send, Accept, Hold, Got, Stale, NoMessage, Refuse, State}
+use Rattle.lr_base.specs.declared.events.Outcome.TheVariants.{Send, Accept, Hold, Take, Got, Stale, NoMessage, Refuse, State}
 use Rattle.lr_base.specs.declared.events.Refusal.TheVariants.{Late, Again, Settled, FullLog, FullHeld, Worn, Unfinished}
-use Rattle.lr_base.specs.declared.events.Sent.TheVariants.{Update, Query, Done, Answer}
+use Rattle.lr_base.specs.declared.events.Sent.TheVariants.{Update, Query, Done, Answer, Gossip}
 use Rattle.lr_base.specs.declared.names.Actor.{Actor}
 use Rattle.lr_base.specs.declared.names.Cid.{Cid}
 use Rattle.lr_sim.specs.Printed.{sent_text, refusal_text, outcome_text}
@@ -55,6 +55,9 @@ sent_apart replicas (Answer c text) (Answer d other) x y fa fb same =
     let first = cid_first c d _ _ _ _ fa.0 fb.0 (ap (drop 7) same) refl refl in
     let last = cut_one (λ byte. not (eqb byte 10)) 10 refl text other x y (ap (drop 1) first.1) (feedless text fa.1) (feedless other fb.1) in
     (λ i. Answer (first.0 i) (last.0 i), last.1)
+sent_apart replicas Gossip Gossip x y fa fb same = (refl, ap (drop 7) same)
+sent_apart replicas Gossip _ x y fa fb same = unlike 0 _ _ refl same
+sent_apart replicas _ Gossip x y fa fb same = unlike 0 _ _ refl same
 sent_apart replicas (Update _ _) (Query _) x y fa fb same = unlike 0 _ _ refl same
 sent_apart replicas (Update _ _) (Done _ _) x y fa fb same = unlike 0 _ _ refl same
 sent_apart replicas (Update _ _) (Answer _ _) x y fa fb same = unlike 0 _ _ refl same
@@ -157,6 +160,11 @@ outcome_apart replicas (Refuse why) (Refuse other) x y fa fb same =
 outcome_apart replicas (State line) (State other) x y fa fb same =
     let last = state_apart replicas line other x y fa fb same in
     (ap State last.0, last.1)
+outcome_apart replicas (Take count) (Take other) x y fa fb same =
+    let last = number_last count other x y fa fb (ap (drop 5) same) in
+    (ap Take last.0, last.1)
+outcome_apart replicas (Take _) _ x y fa fb same = unlike 0 _ _ refl same
+outcome_apart replicas _ (Take _) x y fa fb same = unlike 0 _ _ refl same
 outcome_apart replicas (Send _ _ _ _) (Accept _ _) x y fa fb same = unlike 0 _ _ refl same
 outcome_apart replicas (Send _ _ _ _) (Hold _) x y fa fb same = unlike 0 _ _ refl same
 outcome_apart replicas (Send _ _ _ _) (Got _) x y fa fb same = unlike 0 _ _ refl same

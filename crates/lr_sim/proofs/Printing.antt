@@ -4,7 +4,7 @@ use Rattle.std.specs.List.{All}
 use Rattle.lr_base.specs.Kinds.{IsPlain}
 use Rattle.lr_base.specs.Meaning.{Meaning}
 use Rattle.lr_base.specs.declared.events.Event.{Event}
-use Rattle.lr_base.specs.declared.events.Event.TheVariants.{Call, Deliver, Show}
+use Rattle.lr_base.specs.declared.events.Event.TheVariants.{Call, Deliver, Gossip, Show}
 use Rattle.lr_base.specs.declared.names.Config.{Config}
 use Rattle.lr_graph.specs.Closed.{Each}
 use Rattle.lr_graph.specs.Legal.{IsLegal}
@@ -20,6 +20,7 @@ module _ {Value Op : Type 0} (m : Meaning Value Op) (plain : (op : Op) → IsPla
   event-of : (event : Event Op) → Fits m config event → IsEventOf m config event
   event-of (Call client replica reading op) fits = (fits.0, fits.1, plain op)
   event-of (Deliver message) fits = tt
+  event-of (Gossip from to) fits = fits
   event-of (Show replica) fits = fits
 
   -- events that fit are of this run

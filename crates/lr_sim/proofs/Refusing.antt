@@ -8,7 +8,7 @@ use Rattle.lr_sim.specs.declared.script.Cause.{Cause}
 use Rattle.lr_sim.specs.declared.script.Cause.TheVariants.{Header, TooLong}
 use Rattle.lr_sim.specs.declared.script.ScriptFault.TheVariants.{Line}
 use Rattle.lr_sim.specs.declared.script.fields.EventWord.{EventWord}
-use Rattle.lr_sim.specs.declared.script.fields.EventWord.TheVariants.{Call, Deliver, Show}
+use Rattle.lr_sim.specs.declared.script.fields.EventWord.TheVariants.{Call, Deliver, Gossip, Show}
 use Rattle.lr_sim.proofs.ScriptRefusals.{refused}
 use Rattle.lr_sim.proofs.ShownTexts.{ArePrintable}
 
@@ -17,6 +17,7 @@ module _ {Value Op : Type 0} (m : Meaning Value Op) where
   fields_fit : (config : Config) (word : EventWord) (rest : List ℕ) → IsBadFields m config word rest TooLong → ⊥
   fields_fit config Call rest bad = bad
   fields_fit config Deliver rest bad = bad
+  fields_fit config Gossip rest bad = bad
   fields_fit config Show rest bad = bad
 
   event_fits : (config : Config) (line : List ℕ) (cause : Cause) → cause ≡ TooLong → IsBadEvent m config line cause → ⊥

@@ -13,8 +13,8 @@ use Rattle.lr_sim.specs.FrontAnswers.{HasAnswered}
 use Rattle.lr_base.specs.Fronts.{FrontState, called, clock_read, message_of, new_front}
 use Rattle.lr_base.specs.Replicas.{ReplicaState}
 use Rattle.lr_base.specs.Replicas.{first_replica}
-use Rattle.lr_graph.specs.Runs.{RunState, acted, first_fronts, first_replicas, front_after, front_given, front_lines, replica_given, run_after, stepped, steps_from, unchanged, with_front}
-use Rattle.lr_base.specs.Steps.{taken}
+use Rattle.lr_graph.specs.Runs.{RunState, acted, first_fronts, first_replicas, front_after, front_given, front_lines, replica_given, replica_gossips, run_after, stepped, steps_from, unchanged, with_front}
+use Rattle.lr_base.specs.Steps.{gossiped, taken}
 use Rattle.lr_base.specs.declared.acts.Act.{Act}
 use Rattle.lr_sim.specs.declared.front.CallFault.{CallFault}
 use Rattle.lr_sim.specs.declared.front.CallFault.TheVariants.{Unfinished, Worn, NoMemory}
@@ -31,12 +31,20 @@ always-ok (Err e) Q q = tt
 
 module _ {Value Op : Type 0} where
   -- a replica that is there takes the message at an index, and then acts
-  pub replica_given-at : (m : Meaning Value Op) (run : RunState Value Op) (i at : ℕ) (replica next : ReplicaState Value Op) (sent : Posted Op) (acts : List (Act Op)) → slice_get run.replicas i ≡ Some replica → slice_get run.posted at ≡ Some sent → next.config ≡ replica.config → next.me ≡ replica.me → next.causal ≡ (taken m replica.config replica.me replica.causal sent.message).state → acts ≡ (taken m replica.config replica.me replica.causal sent.message).acts → (posted : Posted Op) → slice_get run.posted at ≡ Some posted → replica_given m run i posted.message (slice_get run.replicas i) ≡ acted (record run { replicas = set run.replicas i next }) (Replica i) acts
+  pub replica_given-at : (m : Meaning Value Op) (run : RunState Value Op) (i at : ℕ) (replica next : ReplicaState Value Op) (sent : Posted Op) (acts : List (Act Op)) → slice_get run.replicas i ≡ Some replica → slice_get run.posted at ≡ Some sent → next.config ≡ replica.config → next.me ≡ replica.me → next.causal ≡ (taken m replica.config replica.me replica.causal sent.from sent.message).state → acts ≡ (taken m replica.config replica.me replica.causal sent.from sent.message).acts → (posted : Posted Op) → slice_get run.posted at ≡ Some posted → replica_given m run i posted.from posted.message (slice_get run.replicas i) ≡ acted (record run { replicas = set run.replicas i next }) (Replica i) acts
   replica_given-at m run i at replica next sent acts there is config me causal did posted found =
-      let end = taken m replica.config replica.me replica.causal sent.message in
+      let end = taken m replica.config replica.me replica.causal sent.from sent.message in
       let one : posted ≡ sent = cc in
       let same : record replica { causal = end.state } ≡ next = λ k. record { config = sym config k; me = sym me k; causal = sym causal k } in
-      (λ k. replica_given m run i (one k).message (there k))
+      (λ k. replica_given m run i (one k).from (one k).message (there k))
+      ∙ (λ k. acted (record run { replicas = set run.replicas i (same k) }) (Replica i) (sym did k))
+
+  -- a replica that is there sends gossip, and then acts
+  pub replica_gossips-at : (m : Meaning Value Op) (run : RunState Value Op) (i to : ℕ) (replica next : ReplicaState Value Op) (acts : List (Act Op)) → slice_get run.replicas i ≡ Some replica → next.config ≡ replica.config → next.me ≡ replica.me → next.causal ≡ (gossiped m replica.config.replicas to replica.causal).state → acts ≡ (gossiped m replica.config.replicas to replica.causal).acts → replica_gossips m run i to (slice_get run.replicas i) ≡ acted (record run { replicas = set run.replicas i next }) (Replica i) acts
+  replica_gossips-at m run i to replica next acts there config me causal did =
+      let end = gossiped m replica.config.replicas to replica.causal in
+      let same : record replica { causal = end.state } ≡ next = λ k. record { config = sym config k; me = sym me k; causal = sym causal k } in
+      (λ k. replica_gossips m run i to (there k))
       ∙ (λ k. acted (record run { replicas = set run.replicas i (same k) }) (Replica i) (sym did k))
 
   -- a front end that is there takes the message at an index

@@ -6,7 +6,7 @@ use Rattle.std.proofs.lemmas.Fmt.{decimal_by_steps}
 use Rattle.std.proofs.lemmas.List.Folds.{list_all-append}
 use Rattle.lr_base.specs.Meaning.{Meaning, is_printable}
 use Rattle.lr_base.specs.declared.events.Event.{Event}
-use Rattle.lr_base.specs.declared.events.Event.TheVariants.{Call, Deliver, Show}
+use Rattle.lr_base.specs.declared.events.Event.TheVariants.{Call, Deliver, Gossip, Show}
 use Rattle.lr_base.specs.declared.names.Config.{Config}
 use Rattle.lr_sim.specs.declared.script.Header.{Header}
 use Rattle.lr_sim.specs.declared.script.Name.TheVariants.{Tally}
@@ -50,4 +50,6 @@ event_printable m ops config set (Call client replica reading op) fits =
     (printable_more (decimal replica) (32 ∷ (decimal reading ++ 32 ∷ m.text op)) (number_printable replica (omega (arith, fits.1)))
     (printable_more (decimal reading) (32 ∷ m.text op) (number_printable reading fits.2) (ops op fits.3)))
 event_printable m ops config set (Deliver message) fits = number_printable message fits
+event_printable m ops config set (Gossip from to) fits =
+    printable_more (decimal from) (32 ∷ decimal to) (number_printable from (omega (arith, fits.0))) (number_printable to (omega (arith, fits.1)))
 event_printable m ops config set (Show replica) fits = number_printable replica (omega (arith, fits))

@@ -11,12 +11,12 @@ use Rattle.lr_sim.specs.declared.script.ScriptFault.TheVariants.{Line, NoMemory}
 use Rattle.lr_sim.specs.declared.script.event_lines.EventFault.{EventFault}
 use Rattle.lr_sim.specs.declared.script.event_lines.EventFault.TheVariants.{Bad, NoMemory as NoMemoryLeft}
 use Rattle.lr_sim.specs.declared.script.fields.EventWord.{EventWord}
-use Rattle.lr_sim.specs.declared.script.fields.EventWord.TheVariants.{Call, Deliver, Show}
+use Rattle.lr_sim.specs.declared.script.fields.EventWord.TheVariants.{Call, Deliver, Gossip, Show}
 use Rattle.lr_sim.specs.declared.script.Header.{Header as Head}
 use Rattle.lr_base.specs.declared.events.Event.{Event}
 use Rattle.lr_sim.specs.Texts.{header_text}
 use Rattle.lr_sim.specs.Script.{line_of, events_text, IsSetUp, Fits, IsNoScript}
-use Rattle.lr_sim.specs.Fields.{spaces, word_text, four_fields, IsCallFields, IsNoNumber}
+use Rattle.lr_sim.specs.Fields.{spaces, word_text, four_fields, IsCallFields, IsNoNumber, IsPair}
 
 -- there is a line feed among the bytes
 abbrev pub IsEnded : List ℕ → Type 0
@@ -86,6 +86,29 @@ IsBadDeliver fields Fields = 0 < spaces fields
 IsBadDeliver fields Number = (spaces fields ≡ 0) × IsNoNumber fields
 IsBadDeliver fields _ = ⊥
 
+-- one of two fields that have to be numbers isn't one
+pub record HasNoPair (fields : List ℕ) : Type 0 where
+  pub first : List ℕ
+  pub second : List ℕ
+  pub split : IsPair fields first second
+  pub bad : IsNoNumber first ⊎ IsNoNumber second
+
+-- the two fields are numbers, and there aren't two such replicas
+pub record AreNoTwoReplicas (config : Config) (fields : List ℕ) : Type 0 where
+  pub first : ℕ
+  pub second : ℕ
+  pub text : fields ≡ decimal first ++ 32 ∷ decimal second
+  pub first_number : first < 2 ^ 64
+  pub second_number : second < 2 ^ 64
+  pub bad : (config.replicas ≤ first) ⊎ (config.replicas ≤ second) ⊎ (first ≡ second)
+
+-- what stands behind gossip's word is no two replicas
+abbrev pub IsBadGossip : Config → List ℕ → Cause → Type 0
+IsBadGossip config fields Fields = spaces fields ≢ 1
+IsBadGossip config fields Number = HasNoPair fields
+IsBadGossip config fields Range = AreNoTwoReplicas config fields
+IsBadGossip config fields _ = ⊥
+
 -- what stands behind a showing's word is no one replica
 abbrev pub IsBadShow : Config → List ℕ → Cause → Type 0
 IsBadShow config fields Fields = 0 < spaces fields
@@ -97,6 +120,7 @@ IsBadShow config fields _ = ⊥
 abbrev pub IsBadFields : {Value Op : Type 0} → Meaning Value Op → Config → EventWord → List ℕ → Cause → Type 0
 IsBadFields m config Call fields cause = IsBadCall m config fields cause
 IsBadFields m config Deliver fields cause = IsBadDeliver fields cause
+IsBadFields m config Gossip fields cause = IsBadGossip config fields cause
 IsBadFields m config Show fields cause = IsBadShow config fields cause
 
 -- a printable line is no event's

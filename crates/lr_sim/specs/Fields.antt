@@ -3,7 +3,7 @@ use Rattle.std.specs.Prelude.{◌≡◌, ◌≢◌, ℕ, ◌+◌, ◌<◌, ◌^�
 use Rattle.std.specs.Borrow.{Bor}
 use Rattle.std.specs.Fmt.{decimal}
 use Rattle.lr_sim.specs.declared.script.fields.EventWord.{EventWord}
-use Rattle.lr_sim.specs.declared.script.fields.EventWord.TheVariants.{Call, Deliver, Show}
+use Rattle.lr_sim.specs.declared.script.fields.EventWord.TheVariants.{Call, Deliver, Gossip, Show}
 
 -- how many spaces there are among the bytes
 abbrev pub spaces : List ℕ → ℕ
@@ -19,6 +19,7 @@ IsField line field (Some rest) = (line ≡ field ++ 32 ∷ rest.now) × (spaces 
 abbrev pub word_text : EventWord → List ℕ
 word_text Call = codes "call"
 word_text Deliver = codes "deliver"
+word_text Gossip = codes "gossip"
 word_text Show = codes "show"
 
 -- four fields, of which the last may hold spaces
@@ -31,6 +32,12 @@ pub record IsCallFields (fields client replica reading op : List ℕ) : Type 0 w
   pub client_field : spaces client ≡ 0
   pub replica_field : spaces replica ≡ 0
   pub reading_field : spaces reading ≡ 0
+
+-- what stands behind a word is these two fields
+pub record IsPair (fields first second : List ℕ) : Type 0 where
+  pub text : fields ≡ first ++ 32 ∷ second
+  pub first_field : spaces first ≡ 0
+  pub second_field : spaces second ≡ 0
 
 -- three fields, of which the last may hold spaces: the counts of replicas and clients, and the delta
 pub record IsConfigFields (fields replicas clients delta : List ℕ) : Type 0 where

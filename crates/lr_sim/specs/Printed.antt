@@ -5,11 +5,11 @@ use Rattle.std.specs.List.{flat_map}
 use Rattle.lr_base.specs.Meaning.{Meaning}
 use Rattle.lr_base.specs.declared.events.Event.{Event}
 use Rattle.lr_base.specs.declared.events.Outcome.{Outcome}
-use Rattle.lr_base.specs.declared.events.Outcome.TheVariants.{Send, Accept, Hold, Got, Stale, NoMessage, Refuse, State}
+use Rattle.lr_base.specs.declared.events.Outcome.TheVariants.{Send, Accept, Hold, Take, Got, Stale, NoMessage, Refuse, State}
 use Rattle.lr_base.specs.declared.events.Refusal.{Refusal}
 use Rattle.lr_base.specs.declared.events.Refusal.TheVariants.{Late, Again, Settled, FullLog, FullHeld, Worn, Unfinished}
 use Rattle.lr_base.specs.declared.events.Sent.{Sent}
-use Rattle.lr_base.specs.declared.events.Sent.TheVariants.{Update, Query, Done, Answer}
+use Rattle.lr_base.specs.declared.events.Sent.TheVariants.{Update, Query, Done, Answer, Gossip}
 use Rattle.lr_base.specs.declared.events.StateLine.{StateLine}
 use Rattle.lr_base.specs.declared.events.Step.{Step}
 use Rattle.lr_base.specs.declared.names.Config.{Config}
@@ -32,6 +32,7 @@ sent_text replicas (Update cid time) = codes "update " ++ (cid_text cid ++ (code
 sent_text replicas (Query cid) = codes "query " ++ cid_text cid
 sent_text replicas (Done cid spot) = codes "done " ++ (cid_text cid ++ (codes " as " ++ spot_text replicas spot))
 sent_text replicas (Answer cid text) = codes "answer " ++ (cid_text cid ++ (codes " " ++ text))
+sent_text replicas Gossip = codes "gossip"
 
 -- why nothing was done
 abbrev pub refusal_text : ℕ → Refusal → List ℕ
@@ -60,6 +61,7 @@ abbrev pub outcome_text : ℕ → Outcome → List ℕ
 outcome_text replicas (Send number from to what) = codes "send " ++ (decimal number ++ (codes " " ++ (actor_text from ++ (codes " " ++ (actor_text to ++ (codes " " ++ sent_text replicas what))))))
 outcome_text replicas (Accept spot cid) = codes "accept " ++ (spot_text replicas spot ++ (codes " " ++ cid_text cid))
 outcome_text replicas (Hold cid) = codes "hold " ++ cid_text cid
+outcome_text replicas (Take count) = codes "take " ++ decimal count
 outcome_text replicas (Got cid) = codes "got " ++ cid_text cid
 outcome_text replicas (Stale cid) = codes "stale " ++ cid_text cid
 outcome_text replicas (NoMessage message) = codes "none " ++ decimal message

@@ -1,5 +1,5 @@
 -- What every message and every act of a run keeps.
-use Rattle.std.specs.Prelude.{◌≡◌, ◌+◌, ◌<◌, ℕ, Bool, true, not, List, [], ◌∷◌, length, nat_lt}
+use Rattle.std.specs.Prelude.{◌≡◌, ◌+◌, ◌<◌, ◌≢◌, ℕ, Bool, true, not, List, [], ◌∷◌, length, nat_lt}
 use Rattle.lr_base.specs.Kinds.{is_query}
 use Rattle.lr_base.specs.declared.lr_service.Kind.{Kind}
 use Rattle.lr_base.specs.declared.names.Actor.{Actor}
@@ -8,9 +8,11 @@ use Rattle.lr_base.specs.declared.names.Config.{Config}
 use Rattle.lr_base.specs.declared.acts.Act.{Act}
 use Rattle.lr_base.specs.declared.acts.Act.TheVariants.{Say, Send}
 use Rattle.lr_base.specs.declared.events.Event.{Event}
-use Rattle.lr_base.specs.declared.events.Event.TheVariants.{Call, Deliver, Show}
+use Rattle.lr_base.specs.declared.events.Event.TheVariants.{Call, Deliver, Gossip as GossipEvent, Show}
+use Rattle.lr_causal.specs.Causal.{AllLogged}
+use Rattle.lr_base.specs.declared.messages.LogUpdate.{LogUpdate}
 use Rattle.lr_base.specs.declared.messages.Message.{Message}
-use Rattle.lr_base.specs.declared.messages.Message.TheVariants.{Update, Query, Done, Answer}
+use Rattle.lr_base.specs.declared.messages.Message.TheVariants.{Update, Query, Done, Answer, Gossip}
 
 -- the stamp that a message carries
 abbrev pub stamp_in : {Op : Type 0} → Message Op → List ℕ
@@ -18,13 +20,23 @@ stamp_in (Update call time) = call.prev
 stamp_in (Query call) = call.prev
 stamp_in (Done cid spot stamp) = stamp
 stamp_in (Answer cid text stamp) = stamp
+stamp_in (Gossip gossip) = gossip.rep_ts
 
--- the client whose call a message is about
-abbrev pub client_in : {Op : Type 0} → Message Op → ℕ
-client_in (Update call time) = call.cid.client
-client_in (Query call) = call.cid.client
-client_in (Done cid spot stamp) = cid.client
-client_in (Answer cid text stamp) = cid.client
+-- whether the client whose call a message is about is one of the run's; gossip is about none
+abbrev pub has_client : {Op : Type 0} → Config → Message Op → Bool
+has_client config (Update call time) = nat_lt call.cid.client config.clients
+has_client config (Query call) = nat_lt call.cid.client config.clients
+has_client config (Done cid spot stamp) = nat_lt cid.client config.clients
+has_client config (Answer cid text stamp) = nat_lt cid.client config.clients
+has_client config (Gossip gossip) = true
+
+-- the updates that a message tells
+abbrev pub updates_in : {Op : Type 0} → Message Op → List (LogUpdate Op)
+updates_in (Update call time) = []
+updates_in (Query call) = []
+updates_in (Done cid spot stamp) = []
+updates_in (Answer cid text stamp) = []
+updates_in (Gossip gossip) = gossip.updates
 
 -- an update message holds an update, and a query message a query
 abbrev pub has_kind : {Op : Type 0} → (Op → Kind) → Message Op → Bool
@@ -32,17 +44,19 @@ has_kind kind_of (Update call time) = not (is_query (kind_of call.op))
 has_kind kind_of (Query call) = is_query (kind_of call.op)
 has_kind kind_of (Done cid spot stamp) = true
 has_kind kind_of (Answer cid text stamp) = true
+has_kind kind_of (Gossip gossip) = true
 
 -- whether there is such a client or such a replica
 abbrev pub is_actor : Config → Actor → Bool
 is_actor config (Client client) = nat_lt client config.clients
 is_actor config (Replica replica) = nat_lt replica config.replicas
 
--- a message of this run: its stamp has a part for each place, and its client is one of the run's
+-- a message of this run: its stamp has a part for each place, its client is one of the run's, and the updates that it tells can be logged
 pub record IsShaped {Op : Type 0} (kind_of : Op → Kind) (config : Config) (message : Message Op) : Type 0 where
   pub parts : length (stamp_in message) ≡ config.replicas + 1
-  pub client : client_in message < config.clients
+  pub client : has_client config message ≡ true
   pub kind : has_kind kind_of message ≡ true
+  pub logged : AllLogged kind_of (config.replicas + 1) (updates_in message)
 
 -- whoever gets a message of this run is one of the run's clients or replicas
 pub record IsSendable {Op : Type 0} (kind_of : Op → Kind) (config : Config) (to : Actor) (message : Message Op) : Type 0 where
@@ -63,4 +77,5 @@ AllFitting kind_of config (act ∷ acts) = IsFitting kind_of config act × AllFi
 abbrev pub IsInRange : {Op : Type 0} → Config → Event Op → Type 0
 IsInRange config (Call client replica reading op) = (client < config.clients) × (replica < config.replicas)
 IsInRange config (Deliver message) = Unit {0}
+IsInRange config (GossipEvent from to) = (from < config.replicas) × (to < config.replicas) × (from ≢ to)
 IsInRange config (Show replica) = replica < config.replicas

@@ -3,13 +3,13 @@ use Rattle.std.specs.Prelude.{◌≡◌, ◌≢◌, ℕ, ◌<◌, ◌^◌, true,
 use Rattle.std.specs.List.{All}
 use Rattle.lr_base.specs.Meaning.{Meaning}
 use Rattle.lr_base.specs.declared.events.Event.{Event}
-use Rattle.lr_base.specs.declared.events.Event.TheVariants.{Call, Deliver, Show}
+use Rattle.lr_base.specs.declared.events.Event.TheVariants.{Call, Deliver, Gossip as GossipEvent, Show}
 use Rattle.lr_base.specs.declared.events.Outcome.{Outcome}
-use Rattle.lr_base.specs.declared.events.Outcome.TheVariants.{Send, Accept, Hold, Got, Stale, NoMessage, Refuse, State}
+use Rattle.lr_base.specs.declared.events.Outcome.TheVariants.{Send, Accept, Hold, Take, Got, Stale, NoMessage, Refuse, State}
 use Rattle.lr_base.specs.declared.events.Refusal.{Refusal}
 use Rattle.lr_base.specs.declared.events.Refusal.TheVariants.{Late, Again, Settled, FullLog, FullHeld, Worn, Unfinished}
 use Rattle.lr_base.specs.declared.events.Sent.{Sent}
-use Rattle.lr_base.specs.declared.events.Sent.TheVariants.{Update, Query, Done, Answer}
+use Rattle.lr_base.specs.declared.events.Sent.TheVariants.{Update, Query, Done, Answer, Gossip}
 use Rattle.lr_base.specs.declared.events.StateLine.{StateLine}
 use Rattle.lr_base.specs.declared.events.Step.{Step}
 use Rattle.lr_base.specs.declared.names.Actor.{Actor}
@@ -48,6 +48,7 @@ SentFits (Update cid time) = CidFits cid × NumberFits time
 SentFits (Query cid) = CidFits cid
 SentFits (Done cid spot) = CidFits cid × SpotFits spot
 SentFits (Answer cid text) = CidFits cid × HasNoFeed text
+SentFits Gossip = Unit
 
 -- the numbers in the reason why nothing was done fit
 abbrev pub RefusalFits : Refusal → Type 0
@@ -76,6 +77,7 @@ abbrev pub OutcomeFits : Outcome → Type 0
 OutcomeFits (Send number from to what) = NumberFits number × ActorFits from × ActorFits to × SentFits what
 OutcomeFits (Accept spot cid) = SpotFits spot × CidFits cid
 OutcomeFits (Hold cid) = CidFits cid
+OutcomeFits (Take count) = NumberFits count
 OutcomeFits (Got cid) = CidFits cid
 OutcomeFits (Stale cid) = CidFits cid
 OutcomeFits (NoMessage message) = NumberFits message
@@ -86,6 +88,7 @@ OutcomeFits (State line) = StateFits line
 abbrev pub EventFits : {Value Op : Type 0} → Meaning Value Op → Event Op → Type 0
 EventFits m (Call client replica reading op) = NumberFits client × NumberFits replica × NumberFits reading × (m.is_op op ≡ true)
 EventFits m (Deliver message) = NumberFits message
+EventFits m (GossipEvent from to) = NumberFits from × NumberFits to
 EventFits m (Show replica) = NumberFits replica
 
 -- an event and what it did keep to all this

@@ -3,7 +3,7 @@ use Rattle.std.specs.Prelude.{ℕ, List, ◌++◌, ◌==◌, cond, codes}
 use Rattle.std.specs.Fmt.{decimal}
 use Rattle.lr_base.specs.Meaning.{Meaning}
 use Rattle.lr_base.specs.declared.events.Event.{Event}
-use Rattle.lr_base.specs.declared.events.Event.TheVariants.{Call, Deliver, Show}
+use Rattle.lr_base.specs.declared.events.Event.TheVariants.{Call, Deliver, Gossip, Show}
 use Rattle.lr_base.specs.declared.names.Actor.{Actor}
 use Rattle.lr_base.specs.declared.names.Actor.TheVariants.{Client, Replica}
 use Rattle.lr_base.specs.declared.names.Cid.{Cid}
@@ -29,6 +29,7 @@ header_text header = codes "lazyrep 1 " ++ (service_text header.service ++ (code
 abbrev pub event_text : {Value Op : Type 0} → Meaning Value Op → Event Op → List ℕ
 event_text m (Call client replica reading op) = codes "call " ++ (decimal client ++ (codes " " ++ (decimal replica ++ (codes " " ++ (decimal reading ++ (codes " " ++ m.text op))))))
 event_text m (Deliver message) = codes "deliver " ++ decimal message
+event_text m (Gossip from to) = codes "gossip " ++ (decimal from ++ (codes " " ++ decimal to))
 event_text m (Show replica) = codes "show " ++ decimal replica
 
 -- a call: its client and that client's count of calls

@@ -36,16 +36,16 @@ impl<S: Service> Model for Replica<S> {
 }
 
 impl<S: Service> Replica<S> {
-    ghost use Rattle.std.specs.Prelude.{◌≡◌, ◌+◌, ◌<◌, ◌++◌, length, map, nat_lt, IfOk, OnOk};
+    ghost use Rattle.std.specs.Prelude.{◌≡◌, ◌+◌, ℕ, true, ◌<◌, ◌++◌, length, map, nat_lt, IfOk, OnOk};
     ghost use Rattle.lr_base.specs.Config.{IsValid};
     ghost use Rattle.lr_base.specs.Kinds.{IsUpdate};
     ghost use Rattle.lr_base.specs.Stamps.{stamp_le};
     ghost use Rattle.lr_base.specs.Ascending.{ascending};
     ghost use Rattle.lr_sim.specs.Asked.{IsAsked};
-    ghost use Rattle.lr_sim.specs.Shapes.{AllFitting, IsShaped};
+    ghost use Rattle.lr_sim.specs.Shapes.{AllFitting, IsShaped, is_actor};
     ghost use Rattle.lr_base.specs.Rules.{fresh_of};
     ghost use Rattle.lr_base.specs.Replicas.{first_replica, state_line_of};
-    ghost use Rattle.lr_base.specs.Steps.{call_taken, ended, has_number, has_room, held_acts, own_taken, query_held, query_taken, taken, update_taken};
+    ghost use Rattle.lr_base.specs.Steps.{call_taken, ended, has_number, has_room, gossiped, held_acts, own_taken, query_held, query_taken, taken, update_taken};
 
     /// A replica at which nothing has happened.
     pub fn new(alloc: Global, config: Config, me: u8) -> Result<Self, NoMemory>
@@ -58,15 +58,16 @@ impl<S: Service> Replica<S> {
     }
 
     /// Takes a message that was sent to it.
-    pub fn take(&mut self, message: &Message<S::Op>) -> Result<Acts<S::Op>, NoMemory>
-        requires { IsShaped S.Op.kind_of self.old.config message.now }
+    pub fn take(&mut self, from: Actor, message: &Message<S::Op>) -> Result<Acts<S::Op>, NoMemory>
+        requires shaped { IsShaped S.Op.kind_of self.old.config message.now }
+        requires from { is_actor self.old.config from ≡ true }
         ensures acts { IfOk result (λ acts. AllFitting S.Op.kind_of self.old.config acts.items) }
         ensures setting { self.new.config ≡ self.old.config }
         ensures number { self.new.me ≡ self.old.me }
-        ensures did { IfOk result (λ acts. acts.items ≡ (taken S.meaning self.old.config self.old.me self.old.causal message.now).acts) }
-        ensures state { OnOk result (self.new.causal ≡ (taken S.meaning self.old.config self.old.me self.old.causal message.now).state) }
+        ensures did { IfOk result (λ acts. acts.items ≡ (taken S.meaning self.old.config self.old.me self.old.causal from message.now).acts) }
+        ensures state { OnOk result (self.new.causal ≡ (taken S.meaning self.old.config self.old.me self.old.causal from message.now).state) }
     {
-        let mut acts = self.take_own(message)?;
+        let mut acts = self.take_own(from, message)?;
         self.end_step(&mut acts)?;
         Ok(acts)
     }
@@ -76,20 +77,79 @@ impl<S: Service> Replica<S> {
     }
 
     // What the message itself does.
-    fn take_own(&mut self, message: &Message<S::Op>) -> Result<Acts<S::Op>, NoMemory>
+    fn take_own(
+        &mut self,
+        from: Actor,
+        message: &Message<S::Op>,
+    ) -> Result<Acts<S::Op>, NoMemory>
+        requires shaped { IsShaped S.Op.kind_of self.old.config message.now }
+        requires from { is_actor self.old.config from ≡ true }
+        ensures acts { IfOk result (λ acts. AllFitting S.Op.kind_of self.old.config acts.items) }
+        ensures setting { self.new.config ≡ self.old.config }
+        ensures number { self.new.me ≡ self.old.me }
+        ensures did { IfOk result (λ acts. acts.items ≡ (own_taken S.meaning self.old.config self.old.me self.old.causal from message.now).acts) }
+        ensures state { OnOk result (self.new.causal ≡ (own_taken S.meaning self.old.config self.old.me self.old.causal from message.now).state) }
+    {
+        match from {
+            Actor::Client(_client) => self.take_call(message),
+            Actor::Replica(from) => self.take_gossip(from, message),
+        }
+    }
+
+    // A client's message: a reply has no rule here.
+    fn take_call(&mut self, message: &Message<S::Op>) -> Result<Acts<S::Op>, NoMemory>
         requires { IsShaped S.Op.kind_of self.old.config message.now }
         ensures acts { IfOk result (λ acts. AllFitting S.Op.kind_of self.old.config acts.items) }
         ensures setting { self.new.config ≡ self.old.config }
         ensures number { self.new.me ≡ self.old.me }
-        ensures did { IfOk result (λ acts. acts.items ≡ (own_taken S.meaning self.old.config self.old.me self.old.causal message.now).acts) }
-        ensures state { OnOk result (self.new.causal ≡ (own_taken S.meaning self.old.config self.old.me self.old.causal message.now).state) }
+        ensures did { (client : ℕ) → IfOk result (λ acts. acts.items ≡ (own_taken S.meaning self.old.config self.old.me self.old.causal (Actor.Client client) message.now).acts) }
+        ensures state { (client : ℕ) → OnOk result (self.new.causal ≡ (own_taken S.meaning self.old.config self.old.me self.old.causal (Actor.Client client) message.now).state) }
     {
         match message {
             Message::Update { call, time } => self.take_update(call, *time),
             Message::Query { call } => self.take_query(call),
-            // A reply has no rule at a replica.
             _ => Ok(no_act(self.allocator())),
         }
+    }
+
+    // A replica's message: gossip of another is taken, and nothing else has a rule here.
+    fn take_gossip(
+        &mut self,
+        from: u8,
+        message: &Message<S::Op>,
+    ) -> Result<Acts<S::Op>, NoMemory>
+        requires shaped { IsShaped S.Op.kind_of self.old.config message.now }
+        requires from { from < self.old.config.replicas }
+        ensures acts { IfOk result (λ acts. AllFitting S.Op.kind_of self.old.config acts.items) }
+        ensures setting { self.new.config ≡ self.old.config }
+        ensures number { self.new.me ≡ self.old.me }
+        ensures did { IfOk result (λ acts. acts.items ≡ (own_taken S.meaning self.old.config self.old.me self.old.causal (Actor.Replica from) message.now).acts) }
+        ensures state { OnOk result (self.new.causal ≡ (own_taken S.meaning self.old.config self.old.me self.old.causal (Actor.Replica from) message.now).state) }
+    {
+        let Message::Gossip { gossip } = message else {
+            return Ok(no_act(self.allocator()));
+        };
+        if from == self.causal.me() {
+            return Ok(no_act(self.allocator()));
+        }
+        let count = self.causal.take_gossip(from, gossip)?;
+        say(self.allocator(), Outcome::Take { count })
+    }
+
+    /// Sends gossip to another replica.
+    pub fn send_gossip(&mut self, to: u8) -> Result<Acts<S::Op>, NoMemory>
+        requires { to < self.old.config.replicas }
+        ensures acts { IfOk result (λ acts. AllFitting S.Op.kind_of self.old.config acts.items) }
+        ensures setting { self.new.config ≡ self.old.config }
+        ensures number { self.new.me ≡ self.old.me }
+        ensures did { IfOk result (λ acts. acts.items ≡ (gossiped S.meaning self.old.config.replicas to self.old.causal).acts) }
+        ensures state { OnOk result (self.new.causal ≡ (gossiped S.meaning self.old.config.replicas to self.old.causal).state) }
+    {
+        let gossip = self.causal.make_gossip()?;
+        let mut acts = no_act(self.allocator());
+        send(&mut acts, Actor::Replica(to), Message::Gossip { gossip })?;
+        self.end_step(&mut acts)?;
+        Ok(acts)
     }
 
     // The first checks of an update.

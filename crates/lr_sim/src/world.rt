@@ -31,11 +31,11 @@ pub struct World<S: Service> {
 }
 
 impl<S: Service> World<S> {
-    ghost use Rattle.std.specs.Prelude.{◌≡◌, ◌<◌, ◌∷◌, [], ◌++◌, slice_get, IfOk, OnOk};
+    ghost use Rattle.std.specs.Prelude.{◌≡◌, ◌<◌, true, ◌∷◌, [], ◌++◌, slice_get, IfOk, OnOk};
     ghost use Rattle.std.specs.Option.{ForSome};
     ghost use Rattle.lr_base.specs.Config.{IsValid};
-    ghost use Rattle.lr_sim.specs.Shapes.{AllFitting, IsInRange, IsSendable, IsShaped};
-    ghost use Rattle.lr_graph.specs.Runs.{act_lines, act_posts, acted, client_called, delivered, first_run, given, message_at, stepped};
+    ghost use Rattle.lr_sim.specs.Shapes.{AllFitting, IsInRange, IsSendable, IsShaped, is_actor};
+    ghost use Rattle.lr_graph.specs.Runs.{act_lines, act_posts, acted, client_called, delivered, first_run, given, message_at, replica_gossips, stepped};
     ghost use Rattle.lr_sim.specs.FrontAnswers.{HasCalled};
     ghost use Rattle.lr_sim.specs.Worlds.{posted_count, run_of, setup_of};
 
@@ -70,6 +70,7 @@ impl<S: Service> World<S> {
                 op,
             } => self.call(*client, *replica, *reading, op),
             Event::Deliver { message } => self.deliver(*message),
+            Event::Gossip { from, to } => self.gossip(*from, *to),
             Event::Show { replica } => {
                 let line = self.replicas[*replica as usize].state_line()?;
                 self.one_line(line)
@@ -146,7 +147,8 @@ impl<S: Service> World<S> {
         message: Message<S::Op>,
         lines: &mut Rows<Outcome>,
     ) -> Result<(), NoMemory>
-        requires { IsSendable S.Op.kind_of (setup_of self.old) to message }
+        requires from { is_actor (setup_of self.old) from ≡ true }
+        requires sendable { IsSendable S.Op.kind_of (setup_of self.old) to message }
         ensures setup { setup_of self.new ≡ setup_of self.old }
         ensures line { OnOk result (lines.new ≡ lines.old ++ act_lines (posted_count self.old) from (Act.Send to message ∷ [])) }
         ensures run { OnOk result (run_of self.new ≡ record (run_of self.old) { posted = (run_of self.old).posted ++ act_posts from (Act.Send to message ∷ []) }) }
@@ -187,8 +189,8 @@ impl<S: Service> World<S> {
         requires client { client < (setup_of self.old).clients }
         requires at { at < posted_count self.old }
         ensures setup { setup_of self.new ≡ setup_of self.old }
-        ensures printed { IfOk result (λ lines. ForSome (slice_get (run_of self.old).posted at) (λ posted. lines ≡ (given S.meaning (run_of self.old) (Actor.Client client) posted.message).outcomes)) }
-        ensures run { OnOk result (ForSome (slice_get (run_of self.old).posted at) (λ posted. run_of self.new ≡ (given S.meaning (run_of self.old) (Actor.Client client) posted.message).run)) }
+        ensures printed { IfOk result (λ lines. ForSome (slice_get (run_of self.old).posted at) (λ posted. lines ≡ (given S.meaning (run_of self.old) (Actor.Client client) posted.from posted.message).outcomes)) }
+        ensures run { OnOk result (ForSome (slice_get (run_of self.old).posted at) (λ posted. run_of self.new ≡ (given S.meaning (run_of self.old) (Actor.Client client) posted.from posted.message).run)) }
     {
         let alloc = self.allocator();
         let posted = &self.posted[at];
@@ -201,18 +203,32 @@ impl<S: Service> World<S> {
         requires me { me < (setup_of self.old).replicas }
         requires at { at < posted_count self.old }
         ensures setup { setup_of self.new ≡ setup_of self.old }
-        ensures printed { IfOk result (λ lines. ForSome (slice_get (run_of self.old).posted at) (λ posted. lines ≡ (given S.meaning (run_of self.old) (Actor.Replica me) posted.message).outcomes)) }
-        ensures run { OnOk result (ForSome (slice_get (run_of self.old).posted at) (λ posted. run_of self.new ≡ (given S.meaning (run_of self.old) (Actor.Replica me) posted.message).run)) }
+        ensures printed { IfOk result (λ lines. ForSome (slice_get (run_of self.old).posted at) (λ posted. lines ≡ (given S.meaning (run_of self.old) (Actor.Replica me) posted.from posted.message).outcomes)) }
+        ensures run { OnOk result (ForSome (slice_get (run_of self.old).posted at) (λ posted. run_of self.new ≡ (given S.meaning (run_of self.old) (Actor.Replica me) posted.from posted.message).run)) }
     {
         let posted = &self.posted[at];
         let replica = &mut self.replicas[me as usize];
-        let acts = replica.take(&posted.message)?;
+        let acts = replica.take(posted.from, &posted.message)?;
         self.perform(me, acts)
+    }
+
+    // A replica sends gossip to another.
+    fn gossip(&mut self, from: u8, to: u8) -> Result<Rows<Outcome>, NoMemory>
+        requires from { from < (setup_of self.old).replicas }
+        requires to { to < (setup_of self.old).replicas }
+        ensures setup { setup_of self.new ≡ setup_of self.old }
+        ensures printed { IfOk result (λ lines. lines ≡ (replica_gossips S.meaning (run_of self.old) from to (slice_get (run_of self.old).replicas from)).outcomes) }
+        ensures run { OnOk result (run_of self.new ≡ (replica_gossips S.meaning (run_of self.old) from to (slice_get (run_of self.old).replicas from)).run) }
+    {
+        let replica = &mut self.replicas[from as usize];
+        let acts = replica.send_gossip(to)?;
+        self.perform(from, acts)
     }
 
     // What a step of a replica does is printed and sent.
     fn perform(&mut self, me: u8, mut acts: Acts<S::Op>) -> Result<Rows<Outcome>, NoMemory>
-        requires { AllFitting S.Op.kind_of (setup_of self.old) acts.items }
+        requires me { me < (setup_of self.old).replicas }
+        requires acts { AllFitting S.Op.kind_of (setup_of self.old) acts.items }
         ensures setup { setup_of self.new ≡ setup_of self.old }
         ensures printed { IfOk result (λ lines. lines ≡ (acted (run_of self.old) (Actor.Replica me) acts.items).outcomes) }
         ensures run { OnOk result (run_of self.new ≡ (acted (run_of self.old) (Actor.Replica me) acts.items).run) }
@@ -296,6 +312,7 @@ fn sent_of<O>(message: &Message<O>) -> Result<Sent, NoMemory>
             cid: *cid,
             text: text.copy()?,
         },
+        Message::Gossip { gossip: _gossip } => Sent::Gossip,
     })
 }
 

@@ -35,6 +35,10 @@ fn put_outcome(replicas: u8, outcome: &Outcome, out: &mut Text) -> Result<(), No
             out.extend(b"hold ")?;
             put_cid(*cid, out)
         }
+        Outcome::Take { count } => {
+            out.extend(b"take ")?;
+            put_number(*count, out)
+        }
         Outcome::Got { cid } => {
             out.extend(b"got ")?;
             put_cid(*cid, out)
@@ -95,6 +99,7 @@ fn put_sent(replicas: u8, what: &Sent, out: &mut Text) -> Result<(), NoMemory>
             out.extend(b" ")?;
             out.extend(text.as_slice())
         }
+        Sent::Gossip => out.extend(b"gossip"),
     }
 }
 

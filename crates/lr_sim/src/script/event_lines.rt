@@ -1,9 +1,9 @@
 //! The lines of events, read and printed.
-ghost use Rattle.std.specs.Prelude.{◌≡◌, ◌++◌, ◌<◌, codes, IfOk, IfErr, OnOk, IfSome, IsNone, string_bytes};
+ghost use Rattle.std.specs.Prelude.{◌≡◌, ◌≢◌, ◌++◌, ◌<◌, codes, IfOk, IfErr, OnOk, IfSome, IsNone, string_bytes};
 ghost use Rattle.std.specs.Fmt.{decimal};
 ghost use Rattle.lr_base.specs.declared.names.Config.{Config};
-ghost use Rattle.lr_sim.specs.Fields.{spaces, IsCallFields};
-ghost use Rattle.lr_sim.specs.Faults.{IsBecause, IsBadEvent, IsBadCall, IsBadDeliver, IsBadShow};
+ghost use Rattle.lr_sim.specs.Fields.{spaces, IsCallFields, IsPair};
+ghost use Rattle.lr_sim.specs.Faults.{IsBecause, IsBadEvent, IsBadCall, IsBadDeliver, IsBadGossip, IsBadShow};
 ghost use Rattle.lr_sim.specs.Script.{Fits};
 ghost use Rattle.lr_sim.specs.Texts.{event_text};
 
@@ -48,6 +48,7 @@ pub fn read_event<S: Service>(
     match word {
         EventWord::Call => read_call::<S>(alloc, config, fields),
         EventWord::Deliver => read_deliver::<S>(fields),
+        EventWord::Gossip => read_gossip::<S>(config, fields),
         EventWord::Show => read_show::<S>(config, fields),
     }
 }
@@ -127,6 +128,48 @@ fn read_deliver<S: Service>(fields: &[u8]) -> Result<Event<S::Op>, EventFault>
     Ok(Event::Deliver { message })
 }
 
+// The two fields that these are, if they are two.
+fn pair_of(fields: &[u8]) -> Option<(&[u8], &[u8])>
+    ensures some { IfSome result (λ it. IsPair fields.now it.0.now it.1.now) }
+    ensures none { IsNone result → spaces fields.now ≢ 1 }
+{
+    let (first, rest) = split_field(fields);
+    let second = rest?;
+    if !is_one_field(second) {
+        return None;
+    }
+    Some((first, second))
+}
+
+fn read_gossip<S: Service>(config: Config, fields: &[u8]) -> Result<Event<S::Op>, EventFault>
+    ensures fits { IfOk result (Fits S.meaning config) }
+    ensures text { IfOk result (λ event. codes "gossip " ++ fields.now ≡ event_text S.meaning event) }
+    ensures err { IfErr result (IsBecause (IsBadGossip config fields.now)) }
+{
+    let Some((from, to)) = pair_of(fields) else {
+        return Err(EventFault::Bad(Cause::Fields));
+    };
+    let Some(from) = read_number(from) else {
+        return Err(EventFault::Bad(Cause::Number));
+    };
+    let Some(to) = read_number(to) else {
+        return Err(EventFault::Bad(Cause::Number));
+    };
+    if config.replicas as u64 <= from {
+        return Err(EventFault::Bad(Cause::Range));
+    }
+    if config.replicas as u64 <= to {
+        return Err(EventFault::Bad(Cause::Range));
+    }
+    if from == to {
+        return Err(EventFault::Bad(Cause::Range));
+    }
+    Ok(Event::Gossip {
+        from: from as u8,
+        to: to as u8,
+    })
+}
+
 fn read_show<S: Service>(config: Config, fields: &[u8]) -> Result<Event<S::Op>, EventFault>
     ensures fits { IfOk result (Fits S.meaning config) }
     ensures text { IfOk result (λ event. codes "show " ++ fields.now ≡ event_text S.meaning event) }
@@ -167,6 +210,12 @@ pub fn print_event<S: Service>(event: &Event<S::Op>, out: &mut Text) -> Result<(
         Event::Deliver { message } => {
             let message = *message;
             let line = format!(in out.allocator(); "deliver {message}")?;
+            out.extend(line.as_bytes())
+        }
+        Event::Gossip { from, to } => {
+            let from = *from;
+            let to = *to;
+            let line = format!(in out.allocator(); "gossip {from} {to}")?;
             out.extend(line.as_bytes())
         }
         Event::Show { replica } => {

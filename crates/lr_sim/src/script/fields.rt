@@ -8,6 +8,7 @@ ghost use Rattle.lr_sim.specs.declared.script.fields.EventWord.{EventWord};
 pub enum EventWord {
     Call,
     Deliver,
+    Gossip,
     Show,
 }
 
@@ -48,6 +49,9 @@ pub fn word_of(field: &[u8]) -> Option<EventWord>
     }
     if field == b"deliver".as_slice() {
         return Some(EventWord::Deliver);
+    }
+    if field == b"gossip".as_slice() {
+        return Some(EventWord::Gossip);
     }
     if field == b"show".as_slice() {
         return Some(EventWord::Show);

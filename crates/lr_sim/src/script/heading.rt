@@ -11,8 +11,8 @@ use crate::script::fields::split_field;
 use crate::script::{Header, Name};
 use lr_base::{Config, read_number};
 
-// How many replicas a script may ask for, and how many clients at most.
-const REPLICAS: u64 = 1;
+// How many replicas and how many clients a script may ask for at most.
+const MOST_REPLICAS: u64 = 9;
 
 const MOST_CLIENTS: u64 = 64;
 
@@ -70,7 +70,10 @@ fn config_of(fields: &[u8]) -> Option<Config>
     let replicas = read_number(texts.replicas)?;
     let clients = read_number(texts.clients)?;
     let delta = read_number(texts.delta)?;
-    if replicas != REPLICAS {
+    if replicas < 1 {
+        return None;
+    }
+    if MOST_REPLICAS < replicas {
         return None;
     }
     if clients < 1 {

@@ -1,7 +1,7 @@
 use Rattle.std.proofs.Common.{◌++◌, ◌∷◌, ◌∙◌, refl, ap}
 use Rattle.lr_sim.specs.Fields.{word_text}
-use Rattle.lr_sim.specs.Faults.{IsBadEvent, no_word, word_alone, bad_rest, IsBadCall, IsBadDeliver, IsBadShow}
-use Rattle.lr_sim.specs.declared.script.fields.EventWord.TheVariants.{Call, Deliver, Show}
+use Rattle.lr_sim.specs.Faults.{IsBadEvent, no_word, word_alone, bad_rest, IsBadCall, IsBadDeliver, IsBadGossip, IsBadShow}
+use Rattle.lr_sim.specs.declared.script.fields.EventWord.TheVariants.{Call, Deliver, Gossip, Show}
 use Rattle.lr_sim.proofs.Cuts.{field_alone_is, field_before_is, no_word_alone, no_word_before}
 use Rattle.lr_sim.proofs.FaultLemmas.{fault_said}
 use Rattle.lr_sim.proofs.script.event_lines.read_event.Goals as goal
@@ -32,6 +32,14 @@ returns-in-Deliver-clause-err g c =
     let word = c.in-Some.ensures.some ∙ ap word_text c.in-Deliver.is in
     fault_said (IsBadDeliver fields) (IsBadEvent g.S.Service.meaning c.args.config c.args.text.now)
     (λ cause bad. bad_rest Deliver fields cause (is ∙ ap (λ w. w ++ 32 ∷ fields) word) bad) c.read_deliver.result c.read_deliver.ensures.err
+
+pub returns-in-Gossip-clause-err : goal.returns-in-Gossip-clause-err
+returns-in-Gossip-clause-err g c =
+    let fields = c.in-Some-fields.fields.now in
+    let is = field_before_is _ _ _ _ c.split_field.ensures.field c.in-Some-fields.is in
+    let word = c.in-Some.ensures.some ∙ ap word_text c.in-Gossip.is in
+    fault_said (IsBadGossip c.args.config fields) (IsBadEvent g.S.Service.meaning c.args.config c.args.text.now)
+    (λ cause bad. bad_rest Gossip fields cause (is ∙ ap (λ w. w ++ 32 ∷ fields) word) bad) c.read_gossip.result c.read_gossip.ensures.err
 
 pub returns-in-Show-clause-err : goal.returns-in-Show-clause-err
 returns-in-Show-clause-err g c =

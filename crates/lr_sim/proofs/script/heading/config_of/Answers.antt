@@ -24,8 +24,14 @@ returns-in_err-delta-clause-none c _ config set e =
     let one = config_one _ _ _ _ config c.in_ok-texts.ensures.some set e in
     c.in_err-delta.ensures.none refl config.delta set.number one.2
 
-pub returns-then-replicas-ne-REPLICAS-clause-none : goal.returns-then-replicas-ne-REPLICAS-clause-none
-returns-then-replicas-ne-REPLICAS-clause-none c _ config set e =
+pub returns-then-replicas-lt1-clause-none : goal.returns-then-replicas-lt1-clause-none
+returns-then-replicas-lt1-clause-none c _ config set e =
+    let one = config_one _ _ _ _ config c.in_ok-texts.ensures.some set e in
+    let same = decimal_injective c.in_ok-replicas.replicas config.replicas (omega arith) (omega arith) (sym c.in_ok-replicas.ensures.read ∙ one.0) in
+    absurd (omega arith)
+
+pub returns-then-replicas-gt-MOST_REPLICAS-clause-none : goal.returns-then-replicas-gt-MOST_REPLICAS-clause-none
+returns-then-replicas-gt-MOST_REPLICAS-clause-none c _ config set e =
     let one = config_one _ _ _ _ config c.in_ok-texts.ensures.some set e in
     let same = decimal_injective c.in_ok-replicas.replicas config.replicas (omega arith) (omega arith) (sym c.in_ok-replicas.ensures.read ∙ one.0) in
     absurd (omega arith)

@@ -1,7 +1,8 @@
 use Rattle.std.proofs.Common.{◌≡◌, ◌<◌, ◌-◌, ℕ, true, nat_lt, ltb-true, arith, subst}
 use Rattle.lr_base.specs.declared.names.Actor.{Actor}
 use Rattle.lr_sim.proofs.Everywhere.{each-read}
-use Rattle.lr_sim.specs.Shapes.{IsSendable, is_actor}
+use Rattle.lr_sim.specs.Shapes.{is_actor}
+use Rattle.lr_sim.specs.Posts.{IsPosted}
 use Rattle.lr_sim.proofs.world.World.deliver.Goals as goal
 
 pub reply-requires-clause-client : goal.reply-requires-clause-client
@@ -11,8 +12,8 @@ reply-requires-clause-client g c =
     let most = c.if-number-sent.false in
     let sent : c.len-sent.result ≡ it.posted.len = c.len-sent.ensures in
     let within : c.args.number - 1 < it.posted.len = omega arith in
-    let posted = each-read it.posted.items (c.args.number - 1) c.index.result.now (λ (k : ℕ) p. IsSendable g.S.Op.Operation.kind_of it.config p.to p.message) it.all_posted it.posted.len it.posted.ok.0 within c.index.ensures in
-    let known : nat_lt c.in-Client.client it.config.clients ≡ true = subst (λ (to : Actor). is_actor it.config to ≡ true) c.in-Client.is posted.to_known in
+    let posted = each-read it.posted.items (c.args.number - 1) c.index.result.now (λ (k : ℕ) p. IsPosted g.S.Op.Operation.kind_of it.config p) it.all_posted it.posted.len it.posted.ok.0 within c.index.ensures in
+    let known : nat_lt c.in-Client.client it.config.clients ≡ true = subst (λ (to : Actor). is_actor it.config to ≡ true) c.in-Client.is posted.sendable.to_known in
     ltb-true _ _ known
 
 pub take-requires-clause-me : goal.take-requires-clause-me
@@ -22,6 +23,6 @@ take-requires-clause-me g c =
     let most = c.if-number-sent.false in
     let sent : c.len-sent.result ≡ it.posted.len = c.len-sent.ensures in
     let within : c.args.number - 1 < it.posted.len = omega arith in
-    let posted = each-read it.posted.items (c.args.number - 1) c.index.result.now (λ (k : ℕ) p. IsSendable g.S.Op.Operation.kind_of it.config p.to p.message) it.all_posted it.posted.len it.posted.ok.0 within c.index.ensures in
-    let known : nat_lt c.in-Replica.me it.config.replicas ≡ true = subst (λ (to : Actor). is_actor it.config to ≡ true) c.in-Replica.is posted.to_known in
+    let posted = each-read it.posted.items (c.args.number - 1) c.index.result.now (λ (k : ℕ) p. IsPosted g.S.Op.Operation.kind_of it.config p) it.all_posted it.posted.len it.posted.ok.0 within c.index.ensures in
+    let known : nat_lt c.in-Replica.me it.config.replicas ≡ true = subst (λ (to : Actor). is_actor it.config to ≡ true) c.in-Replica.is posted.sendable.to_known in
     ltb-true _ _ known

@@ -3,7 +3,7 @@ use Rattle.std.proofs.lemmas.Option.{slice_get_read}
 use Rattle.lr_sim.proofs.Everywhere.{each-read, each-set}
 use Rattle.lr_sim.proofs.RunLemmas.{always-ok, front_given-at, map-ok}
 use Rattle.lr_sim.specs.Posts.{IsFront}
-use Rattle.lr_sim.specs.Shapes.{IsSendable}
+use Rattle.lr_sim.specs.Posts.{IsPosted}
 use Rattle.lr_sim.proofs.world.World.reply.Goals as goal
 
 pub give-requires : goal.give-requires
@@ -12,8 +12,8 @@ give-requires g c =
     let within : c.args.client < it.fronts.len = rw it.each_client c.requires.client in
     let front : IsFront it.config c.args.client c.index_mut-front.result.now =
     each-read it.fronts.items c.args.client c.index_mut-front.result.now (IsFront it.config) it.all_fronts it.fronts.len it.fronts.ok.0 within c.index_mut-front.ensures.value in
-    let sent = each-read it.posted.items c.args.at c.index-posted.result.now (λ (k : ℕ) p. IsSendable g.S.Op.Operation.kind_of it.config p.to p.message) it.all_posted (length it.posted.items) refl c.requires.at c.index-posted.ensures in
-    sent.shaped.parts ∙ sym front.parts
+    let sent = each-read it.posted.items c.args.at c.index-posted.result.now (λ (k : ℕ) p. IsPosted g.S.Op.Operation.kind_of it.config p) it.all_posted (length it.posted.items) refl c.requires.at c.index-posted.ensures in
+    sent.sendable.shaped.parts ∙ sym front.parts
 
 pub invariant_of-self-clause-all_fronts : goal.invariant_of-self-clause-all_fronts
 invariant_of-self-clause-all_fronts g c =

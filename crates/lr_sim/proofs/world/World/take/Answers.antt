@@ -1,20 +1,30 @@
-use Rattle.std.proofs.Common.{◌<◌, ◌∙◌, ℕ, ap, length, refl, subst, sym}
+use Rattle.std.proofs.Common.{◌≡◌, ◌<◌, ◌∙◌, ℕ, true, ap, length, refl, subst, sym}
 use Rattle.std.proofs.lemmas.Option.{slice_get_read}
 use Rattle.lr_base.specs.declared.names.Config.{Config}
 use Rattle.lr_sim.proofs.Everywhere.{each-read, each-set}
 use Rattle.lr_sim.proofs.RunLemmas.{map-ok, replica_given-at}
 use Rattle.lr_base.specs.Replicas.{IsReplica}
-use Rattle.lr_sim.specs.Shapes.{AllFitting, IsSendable, IsShaped}
+use Rattle.lr_sim.specs.Shapes.{AllFitting, IsShaped, is_actor}
+use Rattle.lr_sim.specs.Posts.{IsPosted}
 use Rattle.lr_sim.proofs.world.World.take.Goals as goal
 
-pub take-requires : goal.take-requires
-take-requires g c =
+pub take-requires-clause-shaped : goal.take-requires-clause-shaped
+take-requires-clause-shaped g c =
     let it = c.args.self.now in
     let within : c.args.me < it.replicas.len = rw it.each_replica c.requires.me in
     let old : IsReplica it.config c.args.me c.index_mut-replica.result.now =
     each-read it.replicas.items c.args.me c.index_mut-replica.result.now (IsReplica it.config) it.all_replicas it.replicas.len it.replicas.ok.0 within c.index_mut-replica.ensures.value in
-    let sent = each-read it.posted.items c.args.at c.index-posted.result.now (λ (k : ℕ) p. IsSendable g.S.Op.Operation.kind_of it.config p.to p.message) it.all_posted (length it.posted.items) refl c.requires.at c.index-posted.ensures in
-    subst (λ (config : Config). IsShaped g.S.Op.Operation.kind_of config c.index-posted.result.now.message) (sym old.setting) sent.shaped
+    let sent = each-read it.posted.items c.args.at c.index-posted.result.now (λ (k : ℕ) p. IsPosted g.S.Op.Operation.kind_of it.config p) it.all_posted (length it.posted.items) refl c.requires.at c.index-posted.ensures in
+    subst (λ (config : Config). IsShaped g.S.Op.Operation.kind_of config c.index-posted.result.now.message) (sym old.setting) sent.sendable.shaped
+
+pub take-requires-clause-from : goal.take-requires-clause-from
+take-requires-clause-from g c =
+    let it = c.args.self.now in
+    let within : c.args.me < it.replicas.len = rw it.each_replica c.requires.me in
+    let old : IsReplica it.config c.args.me c.index_mut-replica.result.now =
+    each-read it.replicas.items c.args.me c.index_mut-replica.result.now (IsReplica it.config) it.all_replicas it.replicas.len it.replicas.ok.0 within c.index_mut-replica.ensures.value in
+    let sent = each-read it.posted.items c.args.at c.index-posted.result.now (λ (k : ℕ) p. IsPosted g.S.Op.Operation.kind_of it.config p) it.all_posted (length it.posted.items) refl c.requires.at c.index-posted.ensures in
+    subst (λ (config : Config). is_actor config c.index-posted.result.now.from ≡ true) (sym old.setting) sent.from_known
 
 pub invariant_of-self-clause-all_replicas : goal.invariant_of-self-clause-all_replicas
 invariant_of-self-clause-all_replicas g c =
@@ -25,8 +35,8 @@ invariant_of-self-clause-all_replicas g c =
     each-set it.replicas.items c.args.me c.take.new.self (IsReplica it.config) it.all_replicas
     (record { setting = c.take.ensures.setting ∙ old.setting; number = c.take.ensures.number ∙ old.number })
 
-pub perform-requires : goal.perform-requires
-perform-requires g c =
+pub perform-requires-clause-acts : goal.perform-requires-clause-acts
+perform-requires-clause-acts g c =
     let it = c.args.self.now in
     let within : c.args.me < it.replicas.len = rw it.each_replica c.requires.me in
     let old : IsReplica it.config c.args.me c.index_mut-replica.result.now =
