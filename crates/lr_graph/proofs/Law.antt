@@ -105,7 +105,7 @@ module _ {Value Op : Type 0} (m : Meaning Value Op) (config : Config) where
       none_some : (k : Known) → ◌≡◌ {A = Option Known} None (Some k) → ⊥
       none_some k e = cc
 
-  first-same : IsSame m config first_facts (first_run m config)
+  pub first-same : IsSame m config first_facts (first_run m config)
   first-same = record {
     issued = λ cid. None;
     shared = record {

@@ -6,3 +6,4 @@ pub mod Worked
 pub mod Runs
 pub mod Closed
 pub mod Names
+pub mod Central

@@ -1,8 +1,11 @@
 //! Laws about legal histories: each function does nothing, and its contract is the law.
 ghost use Rattle.std.specs.Prelude.{◌≡◌, List, map};
-ghost use Rattle.lr_graph.specs.Closed.{Each};
+ghost use Rattle.lr_graph.specs.Central.{IsCentral, facts_after};
+ghost use Rattle.lr_graph.specs.Closed.{Each, IsClosed, IsSound, IsWithin};
+ghost use Rattle.lr_graph.specs.Graph.{Acceptance, first_facts, ready};
 ghost use Rattle.lr_graph.specs.Legal.{IsLegal};
-ghost use Rattle.lr_graph.specs.Runs.{IsEventOf, history_of};
+ghost use Rattle.lr_graph.specs.Runs.{IsEventOf, first_run, history_of, run_after};
+ghost use Rattle.lr_graph.specs.Sets.{SpotSet};
 
 use lr_base::lr_service::Service;
 use lr_base::{Config, Event, Step};
@@ -16,4 +19,16 @@ pub fn runs_are_legal<S: Service>()
 /// Two legal histories of the same events are one.
 pub fn legal_histories_are_one<S: Service>()
     ensures { (config : Config) (one other : List (Step S.Op)) → IsLegal S.meaning config one → IsLegal S.meaning config other → map (λ step. step.event) one ≡ map (λ step. step.event) other → one ≡ other }
+{}
+
+/// After every run each stamp stands for a set of acceptances, and what a replica received is a prefix at each place.
+pub fn stamps_stand_for_sets<S: Service>()
+    ensures { (config : Config) (events : List (Event S.Op)) → Each (IsEventOf S.meaning config) events → IsCentral config (facts_after first_facts (history_of S.meaning config events)) (run_after S.meaning (first_run S.meaning config) events) }
+{}
+
+/// What is ready is received and has all its causes, and every such set is within it.
+pub fn ready_is_the_greatest_closed_set<S: Service>()
+    ensures received { (accepted : List (Acceptance S.Op)) (received : SpotSet) → IsWithin accepted (ready accepted received) received }
+    ensures closed { (accepted : List (Acceptance S.Op)) (received : SpotSet) → IsSound accepted → IsClosed accepted (ready accepted received) }
+    ensures greatest { (accepted : List (Acceptance S.Op)) (received set : SpotSet) → IsWithin accepted set received → IsClosed accepted set → IsWithin accepted set (ready accepted received) }
 {}

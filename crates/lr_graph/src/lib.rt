@@ -4,7 +4,10 @@
 mod laws;
 mod worked;
 
-pub use laws::{legal_histories_are_one, runs_are_legal};
+pub use laws::{
+    legal_histories_are_one, ready_is_the_greatest_closed_set, runs_are_legal,
+    stamps_stand_for_sets,
+};
 pub use worked::{
     a_reply_that_is_not_taken_is_not_legal, an_addition_is_read, another_answer_is_not_legal,
 };
