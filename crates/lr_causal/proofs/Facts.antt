@@ -4,7 +4,7 @@ use Rattle.std.specs.Prelude.{filter, find, remove}
 use Rattle.std.specs.Option.{ForSome}
 use Rattle.lr_base.specs.declared.lr_service.Kind.{Kind}
 use Rattle.lr_base.specs.declared.messages.LogUpdate.{LogUpdate}
-use Rattle.lr_base.specs.Rules.{is_before, put_update}
+use Rattle.lr_base.specs.Rules.{is_before, new_updates, put_update, put_updates}
 use Rattle.lr_causal.specs.Causal.{IsLogged, AllFit, AllLogged}
 use Rattle.lr_causal.specs.Items.{Items}
 use Rattle.lr_causal.specs.Waiting.{behind}
@@ -72,3 +72,12 @@ module _ {Op : Type 0} (kind_of : Op → Kind) (parts : ℕ) where
       go : (passes : Bool) → test u ≡ passes → AllLogged kind_of parts (filter test updates) → AllLogged kind_of parts (filter test (u ∷ updates))
       go true is later = rw is (AllLogged-front u (filter test updates) (all 0 u refl) later)
       go false is later = rw is later
+
+  -- a log of such updates with more of them
+  pub AllLogged-put_all : (more updates : List (LogUpdate Op)) → AllLogged kind_of parts more → AllLogged kind_of parts updates → AllLogged kind_of parts (put_updates more updates)
+  AllLogged-put_all [] updates own all = all
+  AllLogged-put_all (u ∷ more) updates own all = AllLogged-put_all more (put_update u updates) (λ k. own (suc k)) (AllLogged-put u updates (own 0 u refl) all)
+
+  -- a log that gained what is new of some
+  pub AllLogged-gained : (rep_ts : List ℕ) (told new : List (LogUpdate Op)) (own : List (LogUpdate Op)) (log : Items Op) → new ≡ new_updates rep_ts told → log.updates ≡ put_updates new own → AllLogged kind_of parts told → AllLogged kind_of parts own → AllLogged kind_of parts log.updates
+  AllLogged-gained rep_ts told new own log is gained all all_own = rw (gained, is) (AllLogged-put_all _ own (AllLogged-filter _ told all) all_own)

@@ -1,5 +1,6 @@
 mod Facts
-mod Labels
+mod LabelLemmas
 mod Logs
 mod Ready
+mod StampRows
 mod Tables

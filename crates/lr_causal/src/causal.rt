@@ -1,16 +1,20 @@
 //! The causal part of a replica.
-ghost use Rattle.std.specs.Prelude.{◌≡◌, ◌+◌, ◌<◌, ◌≤◌, length, replicate, IfOk};
+ghost use Rattle.std.specs.Prelude.{◌≡◌, ◌+◌, ◌<◌, ◌≤◌, get_or, length, replicate, set, [], IfOk};
 ghost use Rattle.lr_base.specs.Config.{IsValid};
-ghost use Rattle.lr_base.specs.Stamps.{part, stamp_le};
-ghost use Rattle.lr_causal.specs.Causal.{AllLogged, AllKnown};
+ghost use Rattle.lr_base.specs.Stamps.{join};
+ghost use Rattle.lr_causal.specs.Causal.{AllLogged, AllKnown, AllStamps};
 
 use crate::applying::apply_logged;
 use crate::calls::CallTable;
+use crate::gossip::{copy_updates, new_acks, new_updates};
+use crate::labels::is_applied;
 use crate::lateness::late;
 use crate::log::Log;
 use crate::value::Value;
 use lr_base::lr_service::{Operation, Service};
-use lr_base::{Call, Cid, Config, Fresh, Known, LogUpdate, NoMemory, Spot, Stamp, Text};
+use lr_base::{
+    Call, Cid, Config, Fresh, Gossip, Known, LogUpdate, NoMemory, Rows, Spot, Stamp, Text,
+};
 use std::alloc::Global;
 
 /// The state of a replica that causal operations use.
@@ -38,14 +42,16 @@ pub struct Causal<S: Service> {
     ghost imm_parts: { length imm_ts ≡ config.replicas + 1 },
     ghost logged: { AllLogged S.Op.kind_of (config.replicas + 1) log.updates },
     ghost known: { AllKnown (config.replicas + 1) calls },
+    ghost rows: { length table.items ≡ config.replicas },
+    ghost row_parts: { AllStamps (config.replicas + 1) table.items },
 }
 
 impl<S: Service> Causal<S> {
     ghost use Rattle.std.specs.Prelude.{◌≡◌, ◌+◌, ◌<◌, ◌^◌, find, length, IfSome, IfOk, OnOk, OnErr};
-    ghost use Rattle.lr_causal.specs.Causal.{AgainHasParts};
+    ghost use Rattle.lr_causal.specs.Causal.{AgainHasParts, IsGossip};
     ghost use Rattle.lr_base.specs.Config.{IsValid};
     ghost use Rattle.lr_base.specs.Kinds.{IsQuery, IsUpdate};
-    ghost use Rattle.lr_base.specs.Rules.{accepted, answer_of, applied, pruned, first_state, fresh_of, held_more, known_of, same_cid, stamp_of, taken_before, update_of_call};
+    ghost use Rattle.lr_base.specs.Rules.{accepted, answer_of, applied, pruned, first_state, fresh_of, gossip_of, gossip_taken, held_more, known_of, new_count, same_cid, stamp_of, taken_before, update_of_call};
     ghost use Rattle.lr_base.specs.Stamps.{part};
     ghost use Rattle.lr_base.specs.Steps.{still_held};
     ghost use Rattle.lr_causal.specs.State.{config_of, me_of, state_of};
@@ -277,6 +283,41 @@ impl<S: Service> Causal<S> {
         Ok((spot, stamp))
     }
 
+    /// What it tells another replica: how many items it received of each place, and its whole log.
+    pub fn make_gossip(&self) -> Result<Gossip<S::Op>, NoMemory>
+        ensures gossip { IfOk result (λ made. made ≡ gossip_of (state_of self.now)) }
+        ensures shape { IfOk result (λ made. IsGossip S.Op.kind_of ((config_of self.now).replicas + 1) made) }
+    {
+        let updates = copy_updates(self.log.updates(), self.log.allocator())?;
+        let acks = Rows::from_slice(self.log.allocator(), self.log.acks())?;
+        Ok(Gossip {
+            rep_ts: self.rep_ts.copy(),
+            updates,
+            acks,
+        })
+    }
+
+    /// Takes gossip of another replica: what is new is logged, and its stamp is joined. It answers how many items were new.
+    pub fn take_gossip(&mut self, from: u8, gossip: &Gossip<S::Op>) -> Result<u64, NoMemory>
+        requires from { from < (config_of self.old).replicas }
+        requires gossip { IsGossip S.Op.kind_of ((config_of self.old).replicas + 1) gossip.now }
+        ensures count { IfOk result (λ count. count ≡ new_count (state_of self.old) gossip.now) }
+        ensures ok { OnOk result (state_of self.new ≡ gossip_taken from (state_of self.old) gossip.now) }
+        ensures err { OnErr result (state_of self.new ≡ state_of self.old) }
+        ensures config { config_of self.new ≡ config_of self.old }
+        ensures me { me_of self.new ≡ me_of self.old }
+    {
+        let alloc = self.log.allocator();
+        let updates = new_updates(alloc, gossip.updates.as_slice(), &self.rep_ts)?;
+        let acks = new_acks(alloc, gossip.acks.as_slice(), &self.rep_ts)?;
+        let Ok(()) = self.log.add_all(updates.as_slice(), acks.as_slice()) else {
+            return Err(NoMemory);
+        };
+        self.rep_ts.join(&gossip.rep_ts);
+        join_row(&mut self.table, from, &gossip.rep_ts);
+        Ok(updates.len() as u64 + acks.len() as u64)
+    }
+
     /// Applies all that is ready, and drops what is known everywhere.
     pub fn settle(&mut self) -> Result<(), NoMemory>
         ensures ok { OnOk result (state_of self.new ≡ pruned (config_of self.old).replicas (applied S.meaning (state_of self.old))) }
@@ -328,26 +369,15 @@ impl<S: Service> Causal<S> {
     }
 }
 
-// Whether all that a label names is applied to a value with this stamp.
-fn is_applied(label: &Stamp, val_ts: &Stamp) -> bool
-    ensures { result ≡ stamp_le label.now val_ts.now }
+// Joins a stamp to the one at an index.
+fn join_row(table: &mut Vec<Stamp>, at: u8, stamp: &Stamp)
+    requires within { at < length table.old.items }
+    requires parts { AllStamps (length stamp.now) table.old.items }
+    ensures joined { table.new.items ≡ set table.old.items at (join (get_or table.old.items at []) stamp.now) }
+    ensures rows { length table.new.items ≡ length table.old.items }
+    ensures parts { AllStamps (length stamp.now) table.new.items }
 {
-    for place in 0..label.parts() {
-        if label.part(place) > part_or_zero(val_ts, place) {
-            return false;
-        }
-    }
-    true
-}
-
-// The part at a place, where one past the end is 0.
-fn part_or_zero(stamp: &Stamp, place: u8) -> u64
-    ensures { result ≡ part stamp.now place }
-{
-    if place < stamp.parts() {
-        return stamp.part(place);
-    }
-    0
+    table[at as usize].join(stamp);
 }
 
 // A stamp of zeros for each replica.

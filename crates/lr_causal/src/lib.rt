@@ -4,6 +4,8 @@
 mod applying;
 mod calls;
 mod causal;
+mod gossip;
+mod labels;
 mod lateness;
 mod log;
 mod value;

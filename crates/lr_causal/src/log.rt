@@ -2,8 +2,9 @@
 ghost use Rattle.std.specs.Prelude.{◌≡◌, ◌↔◌, ◌<◌, ◌≤◌, ◌+◌, [], length, find, position, IsTrue, IfOk, OnOk, OnErr};
 ghost use Rattle.std.specs.Option.{option_map, option_copied};
 ghost use Rattle.std.specs.List.{position_or_len};
-ghost use Rattle.lr_base.specs.Rules.{put_update, same_cid, is_before as spot_is_before};
+ghost use Rattle.lr_base.specs.Rules.{put_ack, put_acks as all_acks_put, put_update, put_updates as all_updates_put, same_cid, is_before as spot_is_before};
 ghost use Rattle.lr_causal.specs.Items.{Items, item_count};
+ghost use Rattle.lr_causal.specs.Waiting.{behind};
 
 use lr_base::lr_service::Operation;
 use lr_base::{Cid, LogAck, LogUpdate, NoMemory, Spot};
@@ -95,6 +96,16 @@ impl<O: Drop> Log<O> {
         Ok(())
     }
 
+    /// Logs an acknowledgement whose spot isn't there.
+    pub fn add_ack(&mut self, ack: LogAck) -> Result<(), NoMemory>
+        ensures ok { OnOk result (self.new ≡ record self.old { acks = put_ack ack self.old.acks }) }
+        ensures err { OnErr result (self.new ≡ self.old) }
+    {
+        let at = ack_place_of(self.acks.as_slice(), ack.spot);
+        self.acks.insert(at, ack)?;
+        Ok(())
+    }
+
     /// Drops every update.
     pub fn clear_updates(&mut self)
         ensures { self.new ≡ record self.old { updates = [] } }
@@ -115,6 +126,39 @@ impl<O: Operation> Log<O> {
         let acks = Vec::from_slice(self.allocator(), self.acks.as_slice())?;
         Ok(Log { updates, acks })
     }
+
+    /// Logs these items. Where there is none it takes no memory.
+    pub fn add_all(&mut self, updates: &[&LogUpdate<O>], acks: &[LogAck]) -> Result<(), NoMemory>
+        ensures ok { OnOk result (self.new ≡ record self.old { updates = all_updates_put (behind updates.now) self.old.updates; acks = all_acks_put acks.now self.old.acks }) }
+        ensures err { OnErr result (self.new ≡ self.old) }
+    {
+        if updates.is_empty() && acks.is_empty() {
+            return Ok(());
+        }
+        let mut log = self.copy()?;
+        put_updates(&mut log, updates)?;
+        put_acks(&mut log, acks)?;
+        *self = log;
+        Ok(())
+    }
+}
+
+fn put_updates<O: Operation>(log: &mut Log<O>, updates: &[&LogUpdate<O>]) -> Result<(), NoMemory>
+    ensures { OnOk result (log.new ≡ record log.old { updates = all_updates_put (behind updates.now) log.old.updates }) }
+{
+    for update in updates {
+        log.add_update(update.copy()?)?;
+    }
+    Ok(())
+}
+
+fn put_acks<O: Drop>(log: &mut Log<O>, acks: &[LogAck]) -> Result<(), NoMemory>
+    ensures { OnOk result (log.new ≡ record log.old { acks = all_acks_put acks.now log.old.acks }) }
+{
+    for ack in acks {
+        log.add_ack(*ack)?;
+    }
+    Ok(())
 }
 
 fn is_before(first: Spot, second: Spot) -> bool
@@ -140,5 +184,23 @@ fn place_of<O>(updates: &[LogUpdate<O>], spot: Spot) -> usize
     match first_behind(updates, spot) {
         Some(at) => at,
         None => updates.len(),
+    }
+}
+
+// The first logged acknowledgement behind this spot.
+fn first_ack_behind(acks: &[LogAck], spot: Spot) -> Option<usize>
+    ensures { result ≡ position (λ a. spot_is_before spot a.spot) acks.now }
+{
+    acks.iter().position(|ack| is_before(spot, ack.spot))
+}
+
+// Where an acknowledgement of this spot belongs among the others.
+fn ack_place_of(acks: &[LogAck], spot: Spot) -> usize
+    ensures place { result ≡ position_or_len (λ a. spot_is_before spot a.spot) acks.now }
+    ensures most { result ≤ length acks.now }
+{
+    match first_ack_behind(acks, spot) {
+        Some(at) => at,
+        None => acks.len(),
     }
 }

@@ -2,7 +2,7 @@
 use crate::{Causal, late};
 use lr_base::lr_service::{Kind, Service};
 use lr_base::svc_tally::Tally;
-use lr_base::{Call, Cid, Config, Fresh, Spot, Stamp, Text};
+use lr_base::{Call, Cid, Config, Fresh, Gossip, LogAck, Rows, Spot, Stamp, Text};
 use std::alloc::Global;
 use std::process::Abort;
 use std::test::Fail;
@@ -120,6 +120,22 @@ fn executed(alloc: Global, replica: &Causal<Tally>) -> Result<Vec<u64>, Fail> {
         seqs.push(cid.seq)?;
     }
     Ok(seqs)
+}
+
+// Gives one replica's gossip to another, which applies what it can. It tells how many items were new there.
+fn tell(rt: &impl Abort, from: &Causal<Tally>, to: &mut Causal<Tally>) -> Result<u64, Fail> {
+    assert!(rt; from.config() == to.config());
+    let gossip = from.make_gossip()?;
+    let count = to.take_gossip(from.me(), &gossip)?;
+    to.settle()?;
+    to.drop_answered();
+    Ok(count)
+}
+
+// What one replica was last heard to have received.
+fn row(rt: &impl Abort, replica: &Causal<Tally>, of: usize) -> [u64; 4] {
+    assert!(rt; of < replica.table().len());
+    parts_of(&replica.table()[of])
 }
 
 #[test]
@@ -403,5 +419,143 @@ fn queries_are_held_until_their_labels_are_applied(rt: HostRuntime) -> Result<()
     replica.settle()?;
     replica.drop_answered();
     assert_eq!(rt; held(rt.alloc(), &replica)?.as_slice(), [3, 5].as_slice());
+    Ok(())
+}
+
+// One of two replicas that has accepted and applied the client's call of this number.
+fn replica_with(
+    rt: &impl Abort,
+    alloc: Global,
+    me: u8,
+    seq: u64,
+    op: &str,
+) -> Result<Causal<Tally>, Fail> {
+    let mut replica = replica(rt, alloc, 2, me)?;
+    accept(rt, alloc, &mut replica, seq, &[0; 4], op)?;
+    replica.settle()?;
+    Ok(replica)
+}
+
+// Checks that one of two replicas has both of their first updates, with these calls executed in this order.
+fn check_both(
+    rt: &impl Abort,
+    alloc: Global,
+    replica: &Causal<Tally>,
+    order: &[u64],
+) -> Result<(), Fail> {
+    assert_eq!(rt; parts_of(replica.rep_ts()), [1, 1, 0, 0]);
+    assert_eq!(rt; parts_of(replica.val_ts()), [1, 1, 0, 0]);
+    assert_eq!(rt; executed(alloc, replica)?.as_slice(), order);
+    let answer = read_x(rt, alloc, replica, &[1, 1, 0, 0])?.ok_or("no answer")?;
+    assert!(rt; answer.as_slice() == b"7".as_slice());
+    let logged = replica.log().updates();
+    assert_eq!(rt; logged.len(), 2);
+    assert!(rt;
+        logged[0].spot
+            == Spot {
+                place: 0,
+                number: 1
+            }
+    );
+    assert!(rt;
+        logged[1].spot
+            == Spot {
+                place: 1,
+                number: 1
+            }
+    );
+    Ok(())
+}
+
+#[test]
+fn crossed_gossip_brings_both_to_one_state(rt: HostRuntime) -> Result<(), Fail> {
+    let mut first = replica_with(&rt, rt.alloc(), 0, 1, "add x 3")?;
+    let mut second = replica_with(&rt, rt.alloc(), 1, 2, "add x 4")?;
+    let before = first.copy()?;
+    assert_eq!(rt; tell(&rt, &second, &mut first)?, 1);
+    assert_eq!(rt; tell(&rt, &before, &mut second)?, 1);
+    check_both(&rt, rt.alloc(), &first, &[1, 2])?;
+    check_both(&rt, rt.alloc(), &second, &[2, 1])?;
+    // Each knows of the other what it was told.
+    assert_eq!(rt; row(&rt, &first, 0), [0; 4]);
+    assert_eq!(rt; row(&rt, &first, 1), [0, 1, 0, 0]);
+    assert_eq!(rt; row(&rt, &second, 0), [1, 0, 0, 0]);
+    assert_eq!(rt; row(&rt, &second, 1), [0; 4]);
+    Ok(())
+}
+
+#[test]
+fn gossip_that_comes_again_has_nothing_new(rt: HostRuntime) -> Result<(), Fail> {
+    let first = replica_with(&rt, rt.alloc(), 0, 1, "add x 3")?;
+    let mut second = replica_with(&rt, rt.alloc(), 1, 2, "add x 4")?;
+    for new in [1, 0, 0] {
+        assert_eq!(rt; tell(&rt, &first, &mut second)?, new);
+        check_both(&rt, rt.alloc(), &second, &[2, 1])?;
+    }
+    Ok(())
+}
+
+#[test]
+fn gossip_waits_for_its_causes(rt: HostRuntime) -> Result<(), Fail> {
+    let mut first = replica(&rt, rt.alloc(), 3, 0)?;
+    let mut second = replica(&rt, rt.alloc(), 3, 1)?;
+    let mut third = replica(&rt, rt.alloc(), 3, 2)?;
+    accept(&rt, rt.alloc(), &mut first, 1, &[0; 4], "add x 3")?;
+    // The client has seen the first update; this replica hasn't.
+    accept(&rt, rt.alloc(), &mut second, 2, &[1, 0, 0, 0], "add x 4")?;
+    hold(&rt, rt.alloc(), &mut third, 3, &[0, 1, 0, 0])?;
+    assert_eq!(rt; tell(&rt, &second, &mut third)?, 1);
+    assert_eq!(rt; parts_of(third.rep_ts()), [0, 1, 0, 0]);
+    assert_eq!(rt; parts_of(third.val_ts()), [0; 4]);
+    assert_eq!(rt; held(rt.alloc(), &third)?.as_slice(), [3].as_slice());
+    assert_eq!(rt; tell(&rt, &first, &mut third)?, 1);
+    assert_eq!(rt; parts_of(third.rep_ts()), [1, 1, 0, 0]);
+    assert_eq!(rt; parts_of(third.val_ts()), [1, 1, 0, 0]);
+    assert_eq!(rt; executed(rt.alloc(), &third)?.as_slice(), [1, 2].as_slice());
+    assert_eq!(rt; held(rt.alloc(), &third)?.len(), 0);
+    // It passes both on.
+    assert_eq!(rt; tell(&rt, &third, &mut second)?, 1);
+    assert_eq!(rt; tell(&rt, &third, &mut first)?, 1);
+    for replica in [&first, &second, &third] {
+        assert_eq!(rt;
+            executed(rt.alloc(), replica)?.as_slice(),
+            [1, 2].as_slice()
+        );
+    }
+    Ok(())
+}
+
+#[test]
+fn acknowledgements_come_with_gossip(rt: HostRuntime) -> Result<(), Fail> {
+    let mut replica = replica(&rt, rt.alloc(), 3, 0)?;
+    // (the numbers of the acknowledgements of the second replica, how many are new, how many are logged)
+    for (numbers, new, logged) in [([1, 2], 2, 2), ([2, 3], 1, 3)] {
+        let mut acks = Rows::new(rt.alloc());
+        for number in numbers {
+            let spot = Spot { place: 1, number };
+            acks.push(LogAck {
+                spot,
+                cid: cid(number),
+                time: 0,
+            })?;
+        }
+        let rep_ts = stamp(&rt, 3, &[0, numbers[1], 0, 0]);
+        assert!(rt; rep_ts.parts() == replica.config().replicas + 1);
+        assert!(rt; 1 < replica.config().replicas);
+        let gossip = Gossip {
+            rep_ts,
+            updates: Rows::new(rt.alloc()),
+            acks,
+        };
+        assert_eq!(rt; replica.take_gossip(1, &gossip)?, new);
+        assert_eq!(rt; replica.log().acks().len(), logged);
+        assert_eq!(rt; parts_of(replica.rep_ts()), [0, numbers[1], 0, 0]);
+    }
+    for (seq, settled) in [(0, false), (1, true), (2, true), (3, true), (4, false)] {
+        match replica.fresh(cid(seq), 0) {
+            Fresh::Settled => assert!(rt; settled, "call {seq} is settled"),
+            _ => assert!(rt; !settled, "call {seq} is not settled"),
+        }
+    }
     Ok(())
 }

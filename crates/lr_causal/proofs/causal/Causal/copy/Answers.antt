@@ -1,6 +1,7 @@
-use Rattle.std.proofs.Common.{ap, refl}
+use Rattle.std.proofs.Common.{◌∙◌, ap, refl}
 use Rattle.lr_causal.specs.Items.{Items}
 use Rattle.lr_causal.proofs.Facts.{AllLogged-along}
+use Rattle.lr_causal.proofs.StampRows.{AllStamps-along}
 use Rattle.lr_causal.proofs.Tables.{AllKnown-along}
 use Rattle.lr_causal.proofs.causal.Causal.copy.Goals as goal
 
@@ -10,3 +11,7 @@ invariant_of-result-clause-logged g c =
 
 pub invariant_of-result-clause-known : goal.invariant_of-result-clause-known
 invariant_of-result-clause-known g c = AllKnown-along _ c.args.self.now.calls c.in_ok-calls.calls c.in_ok-calls.ensures c.args.self.now.known
+
+pub invariant_of-result-clause-row_parts : goal.invariant_of-result-clause-row_parts
+invariant_of-result-clause-row_parts g c =
+    AllStamps-along _ c.args.self.now.table.items c.in_ok-table.table.items (c.in_ok-table.ensures ∙ c.as_slice.ensures.value) c.args.self.now.row_parts

@@ -1,6 +1,6 @@
 use Rattle.std.proofs.Common.{ℕ, ◌<◌, ◌≤◌}
 use Rattle.lr_base.specs.Stamps.{part}
-use Rattle.lr_causal.proofs.causal.is_applied.Given as goal
+use Rattle.lr_causal.proofs.labels.is_applied.Given as goal
 
 -- no part before `place` is greater than its counterpart
 abbrev pub invariant-loop-place : goal.invariant-loop-place

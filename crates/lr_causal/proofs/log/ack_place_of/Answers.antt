@@ -1,0 +1,18 @@
+use Rattle.std.proofs.Common.{sym, ◌∙◌, arith}
+use Rattle.lr_causal.proofs.Logs.{position-found, position-none, position-most}
+use Rattle.lr_causal.proofs.log.ack_place_of.Goals as goal
+
+pub returns-in-Some : goal.returns-in-Some
+returns-in-Some c =
+    let found = sym c.first_ack_behind.ensures ∙ c.in-Some.is in
+    record {
+      place = position-found _ c.args.acks.now c.in-Some.at found;
+      most = position-most _ c.args.acks.now c.in-Some.at found;
+    }
+
+pub returns-in-None : goal.returns-in-None
+returns-in-None c =
+    record {
+      place = position-none _ c.args.acks.now (sym c.first_ack_behind.ensures ∙ c.in-None.is);
+      most = omega arith;
+    }

@@ -1,0 +1,27 @@
+//! Labels against stamps.
+ghost use Rattle.std.specs.Prelude.{◌≡◌};
+ghost use Rattle.lr_base.specs.Stamps.{part, stamp_le};
+
+use lr_base::Stamp;
+
+/// Whether all that a label names is applied to a value with this stamp.
+pub fn is_applied(label: &Stamp, val_ts: &Stamp) -> bool
+    ensures { result ≡ stamp_le label.now val_ts.now }
+{
+    for place in 0..label.parts() {
+        if label.part(place) > part_or_zero(val_ts, place) {
+            return false;
+        }
+    }
+    true
+}
+
+/// The part at a place, where one past the end is 0.
+pub fn part_or_zero(stamp: &Stamp, place: u8) -> u64
+    ensures { result ≡ part stamp.now place }
+{
+    if place < stamp.parts() {
+        return stamp.part(place);
+    }
+    0
+}
