@@ -9,14 +9,15 @@ use Rattle.lr_base.specs.declared.acts.Posted.{Posted}
 use Rattle.lr_base.specs.declared.events.Event.{Event}
 use Rattle.lr_base.specs.declared.events.Outcome.{Outcome}
 use Rattle.lr_base.specs.declared.lr_service.Kind.{Kind}
+use Rattle.lr_base.specs.declared.messages.Call.{Call}
 use Rattle.lr_base.specs.declared.messages.LogUpdate.{LogUpdate}
 use Rattle.lr_base.specs.declared.messages.Message.{Message}
 use Rattle.lr_base.specs.declared.names.Config.{Config}
 use Rattle.lr_base.specs.declared.names.Spot.{Spot}
 use Rattle.lr_graph.specs.After.{after}
-use Rattle.lr_graph.specs.Central.{CarriesStamp, HasStamps, IsCentral, IsUpdateIn, StandsForSet, facts_after, greatest, joined}
+use Rattle.lr_graph.specs.Central.{CarriesStamp, HasStamps, IsCentral, IsHeldIn, IsUpdateIn, StandsForSet, facts_after, greatest, joined}
 use Rattle.lr_graph.specs.Closed.{Each, HasApartSpots, HasOlderCauses, IsAmong, IsSetOf, IsSound, causes}
-use Rattle.lr_graph.specs.Graph.{Acceptance, Carried, Facts, SentMessage, first_facts, is_within, ready}
+use Rattle.lr_graph.specs.Graph.{Acceptance, Carried, Facts, LabelledCall, SentMessage, first_facts, is_within, ready}
 use Rattle.lr_graph.specs.Legal.{logged}
 use Rattle.lr_graph.specs.Names.{Names, spot_at}
 use Rattle.lr_graph.specs.Runs.{IsEventOf, RunState, first_run, history_of, run_after, steps_from, stepped}
@@ -27,7 +28,7 @@ use Rattle.lr_graph.proofs.Events.{same-step}
 use Rattle.lr_graph.proofs.Law.{first-same}
 use Rattle.lr_graph.proofs.Members.{each-at, each-from, each-map}
 use Rattle.lr_graph.proofs.ReadySets.{causes-made, self-below, update-stamp}
-use Rattle.lr_graph.proofs.Relation.{IsReplicaAt, IsSame, SameCarried, SameMessage, SameOption, calls_in, same_answer, same_done, same_gossip, same_query, same_update}
+use Rattle.lr_graph.proofs.Relation.{IsReplicaAt, IsSame, SameCarried, SameHeld, SameList, SameMessage, SameOption, calls_in, same_answer, same_done, same_gossip, same_query, same_update}
 use Rattle.lr_graph.proofs.Ties.{IsUpdateOf}
 use Rattle.lr_graph.proofs.Tests.{and-intro, and-left, and-right, decided, never, not-false, same_spot-is, same_spot-self}
 
@@ -155,13 +156,6 @@ module _ {Value Op : Type 0} (m : Meaning Value Op) (config : Config) (w : Facts
           ap (λ (r : ReplicaState Value Op). stamp_le s r.causal.val_ts) (sym is) ∙ ap (λ state. stamp_le s state.val_ts) tied.1.state_is
           ∙ stamp_le-within w.accepted same.shared.sound (w.received i) tied.0.rep_ts tied.2.counted tied.0.val_ts tied.2.applied.names s x names set
 
-  carries : (x : Carried Op) (p : Message Op) → SameCarried m config w.accepted w.received same.issued (calls_in w) x p → CarriesStamp config w v x p
-  carries x p (same_update c d t time call times by update plain) = stands d.prev c.label call.names call.set
-  carries x p (same_query c d call by) = stands d.prev c.label call.names call.set
-  carries x p (same_done cid other names at stamp cids named set) = stands stamp names named set
-  carries x p (same_answer cid other names text stamp cids named set) = stands stamp names named set
-  carries x p (same_gossip names g h) = h.counted
-
   -- a logged update is that of its acceptance
   update-in : (u : LogUpdate Op) (g : SpotSet) → IsUpdateOf w.accepted g u → IsUpdateIn config w v u
   update-in u g h =
@@ -174,10 +168,28 @@ module _ {Value Op : Type 0} (m : Meaning Value Op) (config : Config) (w : Facts
         stamp = stands (stamp_of u) h.0.below (update-stamp w.accepted sound u h.0 h.1) (below-set w.accepted sound h.0 h.1.among);
       }
 
+  carries : (x : Carried Op) (p : Message Op) → SameCarried m config w.accepted w.received same.issued (calls_in w) x p → CarriesStamp config w v x p
+  carries x p (same_update c d t time call times by update plain) = stands d.prev c.label call.names call.set
+  carries x p (same_query c d call by) = stands d.prev c.label call.names call.set
+  carries x p (same_done cid other names at stamp cids named set) = stands stamp names named set
+  carries x p (same_answer cid other names text stamp cids named set) = stands stamp names named set
+  carries x p (same_gossip names g h) = (h.counted, each-map (IsUpdateOf w.accepted h.logs) (IsUpdateIn config w v) g.updates (λ u of. update-in u h.logs of) h.log.each)
+
+  -- each held query has its counterpart
+  held-in : (i : ℕ) (cs : List (LabelledCall Op)) (ds : List (Call Op)) → ((c : LabelledCall Op) → IsAmong c cs → IsAmong c (w.held i)) → SameList (SameHeld config.clients w.accepted) cs ds → Each (IsHeldIn config w v i) ds
+  held-in i [] [] into all = tt
+  held-in i [] (d ∷ ds) into all = absurd all
+  held-in i (c ∷ cs) [] into all = absurd all
+  held-in i (c ∷ cs) (d ∷ ds) into all = (
+    record { of = c; among = into c (inl refl); label = stands d.prev c.label all.0.call.names all.0.call.set },
+    held-in i cs ds (λ x member. into x (inr member)) all.1,
+  )
+
   has-stamps : (i : ℕ) (replica : ReplicaState Value Op) → IsReplicaAt m config w.accepted (w.received i) (logged config w i) (w.kept i) (w.held i) replica.causal → HasStamps config w v i replica
   has-stamps i replica ok = record {
     prefixes = ok.counted;
     value = stands replica.causal.val_ts (ready w.accepted (w.received i)) ok.applied.names (ready-set w.accepted same.shared.sound (w.received i));
+    held = held-in i (w.held i) replica.causal.held (λ c member. member) ok.held_are;
     updates = each-map (IsUpdateOf w.accepted (logged config w i)) (IsUpdateIn config w v) replica.causal.updates (λ u h. update-in u (logged config w i) h) ok.log.each;
   }
 

@@ -6,6 +6,7 @@ use Rattle.lr_base.specs.Replicas.{ReplicaState}
 use Rattle.lr_base.specs.Rules.{stamp_of}
 use Rattle.lr_base.specs.Stamps.{part, stamp_le}
 use Rattle.lr_base.specs.declared.acts.Posted.{Posted}
+use Rattle.lr_base.specs.declared.messages.Call.{Call}
 use Rattle.lr_base.specs.declared.messages.LogUpdate.{LogUpdate}
 use Rattle.lr_base.specs.declared.messages.Message.{Message}
 use Rattle.lr_base.specs.declared.messages.Message.TheVariants.{Update, Query, Done, Answer, Gossip}
@@ -13,7 +14,7 @@ use Rattle.lr_base.specs.declared.names.Config.{Config}
 use Rattle.lr_base.specs.declared.events.Step.{Step}
 use Rattle.lr_graph.specs.After.{after}
 use Rattle.lr_graph.specs.Closed.{Each, IsAmong, IsSetOf, IsSound, causes}
-use Rattle.lr_graph.specs.Graph.{Acceptance, AnswerReply, Carried, DoneReply, Facts, GossipOf, QueryCopy, SentMessage, UpdateCopy, is_within, ready}
+use Rattle.lr_graph.specs.Graph.{Acceptance, AnswerReply, Carried, DoneReply, Facts, GossipOf, LabelledCall, QueryCopy, SentMessage, UpdateCopy, is_within, ready}
 use Rattle.lr_graph.specs.Names.{IsCounted}
 use Rattle.lr_graph.specs.Runs.{RunState, message_at}
 use Rattle.lr_graph.specs.Sets.{SpotSet}
@@ -47,20 +48,27 @@ pub record IsUpdateIn {Value Op : Type 0} (config : Config) (w : Facts Op) (v : 
   pub prev : StandsForSet config w v u.prev (causes of)
   pub stamp : StandsForSet config w v (stamp_of u) of.below
 
--- the stamp of a message stands for the set that it carries; that of gossip counts what its sender received
+-- the stamp of a message stands for the set that it carries; that of gossip counts what its sender received, and the stamps of its log stand for sets
 abbrev pub CarriesStamp : {Value Op : Type 0} → Config → Facts Op → RunState Value Op → Carried Op → Message Op → Type 0
 CarriesStamp config w v (UpdateCopy c t) (Update d time) = StandsForSet config w v d.prev c.label
 CarriesStamp config w v (QueryCopy c) (Query d) = StandsForSet config w v d.prev c.label
 CarriesStamp config w v (DoneReply cid names) (Done other spot stamp) = StandsForSet config w v stamp names
 CarriesStamp config w v (AnswerReply cid names) (Answer other text stamp) = StandsForSet config w v stamp names
-CarriesStamp config w v (GossipOf names) (Gossip gossip) = IsCounted names gossip.rep_ts
+CarriesStamp config w v (GossipOf names) (Gossip gossip) = IsCounted names gossip.rep_ts × Each (IsUpdateIn config w v) gossip.updates
 CarriesStamp config w v _ _ = ⊥
+
+-- a held query has the label of one that the facts hold there
+pub record IsHeldIn {Value Op : Type 0} (config : Config) (w : Facts Op) (v : RunState Value Op) (i : ℕ) (d : Call Op) : Type 0 where
+  pub of : LabelledCall Op
+  pub among : IsAmong of (w.held i)
+  pub label : StandsForSet config w v d.prev of.label
 
 -- what a replica received of each place is a prefix of its numbers, and its stamps stand for sets
 pub record HasStamps {Value Op : Type 0} (config : Config) (w : Facts Op) (v : RunState Value Op) (i : ℕ) (replica : ReplicaState Value Op) : Type 0 where
   pub prefixes : IsCounted (w.received i) replica.causal.rep_ts
   pub value : StandsForSet config w v replica.causal.val_ts (ready w.accepted (w.received i))
   pub updates : Each (IsUpdateIn config w v) replica.causal.updates
+  pub held : Each (IsHeldIn config w v i) replica.causal.held
 
 -- causes exist and come first, and each stamp that a run has reached stands for a set: those of replicas, of labels and of messages
 pub record IsCentral {Value Op : Type 0} (config : Config) (w : Facts Op) (v : RunState Value Op) : Type 0 where
