@@ -55,9 +55,9 @@ fn call(
     let cid = Cid { client: 0, seq };
     let call = Call { cid, prev, op };
     match kind {
-        Kind::Query => Ok(replica.take(&Message::Query { call })?),
+        Kind::Query => Ok(replica.take(Actor::Client(0), &Message::Query { call })?),
         Kind::Causal | Kind::Forced | Kind::Immediate => {
-            Ok(replica.take(&Message::Update { call, time: 0 })?)
+            Ok(replica.take(Actor::Client(0), &Message::Update { call, time: 0 })?)
         }
     }
 }
