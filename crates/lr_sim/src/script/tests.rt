@@ -19,7 +19,7 @@ const BAD_HEADERS: [(&str, u64, Cause); 31] = [
     ("lazyrep 1 tally 1 1 10\r\n", 1, Cause::Byte),
     ("lazyrep 1 tally 1 1 10\x7f\n", 1, Cause::Byte),
     ("lazyrep 1 mail\x00 1 1 10\n", 1, Cause::Byte),
-    ("lazyrep 1 tally 2 1 10\n", 1, Cause::Header),
+    ("lazyrep 1 tally 10 1 10\n", 1, Cause::Header),
     ("lazyrep 1 tally 0 1 10\n", 1, Cause::Header),
     ("lazyrep 1 mail 1 1 10\n", 1, Cause::Header),
     ("lazyrep 1 claims 1 1 10\n", 1, Cause::Header),
@@ -48,7 +48,7 @@ const BAD_HEADERS: [(&str, u64, Cause); 31] = [
 ];
 
 // (the lines behind a header for one replica and one client, line, cause)
-const BAD_LINES: [(&str, u64, Cause); 45] = [
+const BAD_LINES: [(&str, u64, Cause); 53] = [
     ("deliver 1", 2, Cause::Unended),
     ("gossip 0 1", 2, Cause::Unended),
     ("deliver\t1", 2, Cause::Unended),
@@ -60,7 +60,7 @@ const BAD_LINES: [(&str, u64, Cause); 45] = [
     ("\n", 2, Cause::Event),
     (" \n", 2, Cause::Event),
     (" deliver 1\n", 2, Cause::Event),
-    ("gossip 0 1\n", 2, Cause::Event),
+    ("gossips 0 1\n", 2, Cause::Event),
     ("resend 0 0 5\n", 2, Cause::Event),
     ("Call 0 0 5 add x 3\n", 2, Cause::Event),
     ("calls 0 0 5 add x 3\n", 2, Cause::Event),
@@ -70,6 +70,9 @@ const BAD_LINES: [(&str, u64, Cause); 45] = [
     ("deliver 1 \n", 2, Cause::Fields),
     ("deliver 1 2\n", 2, Cause::Fields),
     ("deliver x y\n", 2, Cause::Fields),
+    ("gossip\n", 2, Cause::Fields),
+    ("gossip 0\n", 2, Cause::Fields),
+    ("gossip 0 1 \n", 2, Cause::Fields),
     ("show\n", 2, Cause::Fields),
     ("show 9 9\n", 2, Cause::Fields),
     ("call\n", 2, Cause::Fields),
@@ -80,12 +83,17 @@ const BAD_LINES: [(&str, u64, Cause); 45] = [
     ("deliver -1\n", 2, Cause::Number),
     ("deliver +1\n", 2, Cause::Number),
     ("deliver 18446744073709551616\n", 2, Cause::Number),
+    ("gossip 0 r1\n", 2, Cause::Number),
+    ("gossip 00 9\n", 2, Cause::Number),
     ("show 00\n", 2, Cause::Number),
     ("show r0\n", 2, Cause::Number),
     ("call 0 0 01 add x 1\n", 2, Cause::Number),
     ("call 0  5 add x 1\n", 2, Cause::Number),
     ("call 1 1 x sub x 1\n", 2, Cause::Number),
     ("call c0 0 5 add x 1\n", 2, Cause::Number),
+    ("gossip 0 1\n", 2, Cause::Range),
+    ("gossip 1 0\n", 2, Cause::Range),
+    ("gossip 0 0\n", 2, Cause::Range),
     ("show 1\n", 2, Cause::Range),
     ("show 256\n", 2, Cause::Range),
     ("call 1 0 5 add x 3\n", 2, Cause::Range),
@@ -101,8 +109,13 @@ const BAD_LINES: [(&str, u64, Cause); 45] = [
 ];
 
 // (a header's line, its count of clients, the events' lines)
-const GOOD: [(&str, u32, &str); 5] = [
+const GOOD: [(&str, u32, &str); 6] = [
     ("lazyrep 1 tally 1 1 0\n", 1, ""),
+    (
+        "lazyrep 1 tally 9 64 10\n",
+        64,
+        "gossip 8 0\ngossip 0 8\ncall 63 8 1 read x\nshow 8\n",
+    ),
     (
         "lazyrep 1 tally 1 64 18446744073709551615\n",
         64,
