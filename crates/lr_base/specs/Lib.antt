@@ -3,6 +3,7 @@ pub mod Config
 pub mod Fronts
 pub mod Kinds
 pub mod Lattice
+pub mod Logged
 pub mod Meaning
 pub mod Replicas
 pub mod Rules

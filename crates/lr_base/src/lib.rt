@@ -3,6 +3,7 @@
 
 mod acts;
 mod events;
+mod executed;
 mod laws;
 pub mod lr_service;
 mod messages;
@@ -15,6 +16,7 @@ mod word;
 
 pub use acts::{Act, Posted};
 pub use events::{Event, Outcome, Refusal, Sent, StateLine, Step};
+pub use executed::Executed;
 pub use laws::{join_is_least, order_of_stamps, set_part_changes_one};
 pub use messages::{Call, Fresh, Gossip, Known, LogAck, LogUpdate, Message};
 pub use names::{Actor, Cid, Config, Spot};

@@ -5,8 +5,8 @@ use Rattle.std.specs.Option.{ForSome}
 use Rattle.lr_base.specs.declared.lr_service.Kind.{Kind}
 use Rattle.lr_base.specs.declared.messages.LogUpdate.{LogUpdate}
 use Rattle.lr_base.specs.Rules.{is_before, new_updates, put_update, put_updates}
-use Rattle.lr_causal.specs.Causal.{IsLogged, AllFit, AllLogged}
-use Rattle.lr_causal.specs.Items.{Items}
+use Rattle.lr_base.specs.Logged.{IsLogged, AllFit, AllLogged}
+use Rattle.lr_log.specs.Items.{Items}
 use Rattle.lr_causal.specs.Waiting.{behind}
 use Rattle.indexmap.proofs.SetLemmas.{map-remove}
 use Rattle.std.specs.Borrow.{Bor}

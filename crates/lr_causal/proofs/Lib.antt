@@ -1,6 +1,5 @@
 mod Facts
 mod LabelLemmas
-mod Logs
 mod Ready
 mod StampRows
 mod Tables

@@ -6,7 +6,7 @@ use Rattle.lr_base.specs.declared.names.Cid.{Cid}
 use Rattle.lr_base.specs.declared.messages.Known.{Known}
 use Rattle.lr_base.specs.contracts.names.CidPartialEq.TheImpl.{eq-value}
 use Rattle.lr_base.specs.Rules.{same_cid, known_of}
-use Rattle.lr_causal.specs.Causal.{AllKnown}
+use Rattle.lr_base.specs.Logged.{AllKnown}
 
 -- the derived comparison compares client and count
 pub eq-same_cid : (a b : Cid) → eq-value.it a b ≡ same_cid a b

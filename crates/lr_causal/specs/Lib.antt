@@ -1,5 +1,4 @@
 pub mod Applied
 pub mod Causal
-pub mod Items
 pub mod State
 pub mod Waiting

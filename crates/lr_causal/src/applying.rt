@@ -4,7 +4,7 @@ ghost use Rattle.lr_base.specs.Kinds.{IsUpdate};
 ghost use Rattle.lr_base.specs.Rules.{apply_one, apply_ready as rule, known_of, stamp_of, take_ready, waiting as waiting_of};
 ghost use Rattle.lr_causal.specs.Applied.{progress};
 ghost use Rattle.lr_causal.specs.Waiting.{behind, TakesAt};
-ghost use Rattle.lr_causal.specs.Causal.{AllFit, AllKnown, AllLogged, IsLogged};
+ghost use Rattle.lr_base.specs.Logged.{AllFit, AllKnown, AllLogged, IsLogged};
 
 use crate::calls::CallTable;
 use crate::value::Value;

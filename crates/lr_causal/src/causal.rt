@@ -2,19 +2,20 @@
 ghost use Rattle.std.specs.Prelude.{◌≡◌, ◌+◌, ◌<◌, ◌≤◌, get_or, length, replicate, set, [], IfOk};
 ghost use Rattle.lr_base.specs.Config.{IsValid};
 ghost use Rattle.lr_base.specs.Stamps.{join};
-ghost use Rattle.lr_causal.specs.Causal.{AllLogged, AllKnown, AllStamps};
+ghost use Rattle.lr_base.specs.Logged.{AllLogged, AllKnown};
+ghost use Rattle.lr_causal.specs.Causal.{AllStamps};
 
 use crate::applying::apply_logged;
 use crate::calls::CallTable;
 use crate::gossip::{copy_updates, new_acks, new_updates};
 use crate::labels::is_applied;
 use crate::lateness::late;
-use crate::log::Log;
 use crate::value::Value;
 use lr_base::lr_service::{Operation, Service};
 use lr_base::{
     Call, Cid, Config, Fresh, Gossip, Known, LogUpdate, NoMemory, Rows, Spot, Stamp, Text,
 };
+use lr_log::Log;
 use std::alloc::Global;
 
 /// The state of a replica that causal operations use.
@@ -241,7 +242,7 @@ impl<S: Service> Causal<S> {
         if let Some(known) = self.calls.find(cid) {
             return Some(known.copy());
         }
-        let update = self.log.update_of(cid)?;
+        let update = self.log.first_update(cid)?;
         Some(Known {
             spot: update.spot,
             stamp: update.stamp(),

@@ -7,13 +7,11 @@ mod causal;
 mod gossip;
 mod labels;
 mod lateness;
-mod log;
 mod value;
 
 pub use calls::CallTable;
 pub use causal::Causal;
 pub use lateness::late;
-pub use log::{LOG_ROOM, Log};
 pub use value::Value;
 
 #[cfg(test)]

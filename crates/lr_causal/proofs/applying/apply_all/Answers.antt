@@ -1,6 +1,6 @@
 use Rattle.std.proofs.Common.{◌<◌, ◌∙◌, length, ap, sym}
 use Rattle.lr_causal.specs.Applied.{progress}
-use Rattle.lr_causal.specs.Causal.{AllKnown, IsLogged}
+use Rattle.lr_base.specs.Logged.{AllKnown, IsLogged}
 use Rattle.lr_causal.specs.Waiting.{behind, TakesAt}
 use Rattle.lr_causal.proofs.Facts.{AllFit-logged, AllLogged-behind}
 use Rattle.lr_causal.proofs.Ready.{apply_ready-step, behind-read, TakesAt-same}

@@ -1,7 +1,7 @@
 use Rattle.std.proofs.Common.{◌≡◌, length, vec_len}
 use Rattle.lr_base.specs.Rules.{apply_ready}
 use Rattle.lr_causal.specs.Applied.{progress}
-use Rattle.lr_causal.specs.Causal.{AllKnown, AllLogged}
+use Rattle.lr_base.specs.Logged.{AllKnown, AllLogged}
 use Rattle.lr_causal.specs.Waiting.{behind}
 use Rattle.lr_causal.proofs.applying.apply_all.Given as goal
 

@@ -1,6 +1,6 @@
 use Rattle.std.proofs.Common.{◌∙◌, length, ap, refl, arith}
 use Rattle.lr_base.specs.Rules.{waiting}
-use Rattle.lr_causal.specs.Causal.{AllLogged}
+use Rattle.lr_base.specs.Logged.{AllLogged}
 use Rattle.lr_causal.specs.Waiting.{behind}
 use Rattle.lr_causal.proofs.Facts.{AllFit-logged, AllLogged-along, AllLogged-filter}
 use Rattle.lr_causal.proofs.Ready.{behind-read}

@@ -1,5 +1,5 @@
 use Rattle.std.proofs.Common.{◌∙◌, ap, refl}
-use Rattle.lr_causal.specs.Items.{Items}
+use Rattle.lr_log.specs.Items.{Items}
 use Rattle.lr_causal.proofs.Facts.{AllLogged-along}
 use Rattle.lr_causal.proofs.StampRows.{AllStamps-along}
 use Rattle.lr_causal.proofs.Tables.{AllKnown-along}

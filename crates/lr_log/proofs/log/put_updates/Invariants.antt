@@ -1,7 +1,7 @@
 use Rattle.std.proofs.Common.{◌≡◌, take}
 use Rattle.lr_base.specs.Rules.{put_updates}
-use Rattle.lr_causal.specs.Waiting.{behind}
-use Rattle.lr_causal.proofs.log.put_updates.Given as goal
+use Rattle.lr_log.proofs.Logs.{behind}
+use Rattle.lr_log.proofs.log.put_updates.Given as goal
 
 -- the updates so far are logged
 abbrev pub invariant-loop-update : goal.invariant-loop-update

@@ -2,8 +2,8 @@ use Rattle.std.proofs.Common.{◌≡◌, ℕ, sym, ◌∙◌, ap}
 use Rattle.std.specs.Prelude.{insert}
 use Rattle.std.specs.List.{position_or_len}
 use Rattle.lr_base.specs.Rules.{is_before, put_ack}
-use Rattle.lr_causal.proofs.Logs.{put-ack_insert, acked-more}
-use Rattle.lr_causal.proofs.log.Log.add_ack.Goals as goal
+use Rattle.lr_log.proofs.Logs.{put-ack_insert, acked-more}
+use Rattle.lr_log.proofs.log.Log.add_ack.Goals as goal
 
 pub returns-clause-ok : goal.returns-clause-ok
 returns-clause-ok g c =

@@ -1,10 +1,9 @@
 //! What a replica received and keeps: updates and acknowledgements.
-ghost use Rattle.std.specs.Prelude.{◌≡◌, ◌↔◌, ◌<◌, ◌≤◌, ◌+◌, [], length, find, position, IsTrue, IfOk, OnOk, OnErr};
+ghost use Rattle.std.specs.Prelude.{◌≡◌, ◌↔◌, ◌<◌, ◌≤◌, ◌+◌, [], length, find, map, position, IsTrue, IfOk, OnOk, OnErr};
 ghost use Rattle.std.specs.Option.{option_map, option_copied};
 ghost use Rattle.std.specs.List.{position_or_len};
 ghost use Rattle.lr_base.specs.Rules.{put_ack, put_acks as all_acks_put, put_update, put_updates as all_updates_put, same_cid, is_before as spot_is_before};
-ghost use Rattle.lr_causal.specs.Items.{Items, item_count};
-ghost use Rattle.lr_causal.specs.Waiting.{behind};
+ghost use Rattle.lr_log.specs.Items.{Items, item_count};
 
 use lr_base::lr_service::Operation;
 use lr_base::{Cid, LogAck, LogUpdate, NoMemory, Spot};
@@ -22,7 +21,7 @@ pub struct Log<O: Drop> {
 }
 
 impl<O: Drop> Model for Log<O> {
-    ghost use Rattle.lr_causal.specs.Items.{Items};
+    ghost use Rattle.lr_log.specs.Items.{Items};
 
     ghost Value = { Items O };
 
@@ -60,6 +59,13 @@ impl<O: Drop> Log<O> {
         self.acks.as_slice()
     }
 
+    /// How many items are logged.
+    pub fn len(&self) -> usize
+        ensures { result ≡ item_count self.now }
+    {
+        self.updates.len() + self.acks.len()
+    }
+
     /// Whether one more item may be logged.
     pub fn has_room(&self) -> bool
         ensures { IsTrue result ↔ (item_count self.now < LOG_ROOM) }
@@ -68,14 +74,22 @@ impl<O: Drop> Log<O> {
         updates < LOG_ROOM && self.acks.len() < LOG_ROOM - updates
     }
 
-    /// The least spot of a logged update of this call.
-    pub fn update_of(&self, cid: Cid) -> Option<&LogUpdate<O>>
+    /// The logged update of this call with the least spot.
+    pub fn first_update(&self, cid: Cid) -> Option<&LogUpdate<O>>
         ensures { option_copied result ≡ find (λ u. same_cid u.cid cid) self.now.updates }
     {
         self.updates
             .as_slice()
             .iter()
             .find(|update| update.cid == cid)
+    }
+
+    /// The least spot of a logged update of this call.
+    pub fn update_of(&self, cid: Cid) -> Option<Spot>
+        ensures { result ≡ option_map (λ u. u.spot) (find (λ u. same_cid u.cid cid) self.now.updates) }
+    {
+        let update = self.first_update(cid)?;
+        Some(update.spot)
     }
 
     /// The least spot of a logged acknowledgement of this call.
@@ -86,7 +100,7 @@ impl<O: Drop> Log<O> {
         Some(ack.spot)
     }
 
-    /// Logs an update whose spot isn't there.
+    /// Logs an update, at its place in the order of spots.
     pub fn add_update(&mut self, update: LogUpdate<O>) -> Result<(), NoMemory>
         ensures ok { OnOk result (self.new ≡ record self.old { updates = put_update update self.old.updates }) }
         ensures err { OnErr result (self.new ≡ self.old) }
@@ -96,7 +110,7 @@ impl<O: Drop> Log<O> {
         Ok(())
     }
 
-    /// Logs an acknowledgement whose spot isn't there.
+    /// Logs an acknowledgement, at its place in the order of spots.
     pub fn add_ack(&mut self, ack: LogAck) -> Result<(), NoMemory>
         ensures ok { OnOk result (self.new ≡ record self.old { acks = put_ack ack self.old.acks }) }
         ensures err { OnErr result (self.new ≡ self.old) }
@@ -129,7 +143,7 @@ impl<O: Operation> Log<O> {
 
     /// Logs these items. Where there is none it takes no memory.
     pub fn add_all(&mut self, updates: &[&LogUpdate<O>], acks: &[LogAck]) -> Result<(), NoMemory>
-        ensures ok { OnOk result (self.new ≡ record self.old { updates = all_updates_put (behind updates.now) self.old.updates; acks = all_acks_put acks.now self.old.acks }) }
+        ensures ok { OnOk result (self.new ≡ record self.old { updates = all_updates_put (map (λ u. u.now) updates.now) self.old.updates; acks = all_acks_put acks.now self.old.acks }) }
         ensures err { OnErr result (self.new ≡ self.old) }
     {
         if updates.is_empty() && acks.is_empty() {
@@ -144,7 +158,7 @@ impl<O: Operation> Log<O> {
 }
 
 fn put_updates<O: Operation>(log: &mut Log<O>, updates: &[&LogUpdate<O>]) -> Result<(), NoMemory>
-    ensures { OnOk result (log.new ≡ record log.old { updates = all_updates_put (behind updates.now) log.old.updates }) }
+    ensures { OnOk result (log.new ≡ record log.old { updates = all_updates_put (map (λ u. u.now) updates.now) log.old.updates }) }
 {
     for update in updates {
         log.add_update(update.copy()?)?;

@@ -1,6 +1,6 @@
 use Rattle.std.proofs.Common.{sym, ◌∙◌, arith}
-use Rattle.lr_causal.proofs.Logs.{position-found, position-none, position-most}
-use Rattle.lr_causal.proofs.log.place_of.Goals as goal
+use Rattle.lr_log.proofs.Logs.{position-found, position-none, position-most}
+use Rattle.lr_log.proofs.log.place_of.Goals as goal
 
 pub returns-in-Some : goal.returns-in-Some
 returns-in-Some g c =

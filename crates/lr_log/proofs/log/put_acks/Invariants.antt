@@ -1,6 +1,6 @@
 use Rattle.std.proofs.Common.{◌≡◌, take}
 use Rattle.lr_base.specs.Rules.{put_acks}
-use Rattle.lr_causal.proofs.log.put_acks.Given as goal
+use Rattle.lr_log.proofs.log.put_acks.Given as goal
 
 -- the acknowledgements so far are logged
 abbrev pub invariant-loop-ack : goal.invariant-loop-ack

@@ -1,6 +1,6 @@
 -- Where an update stands in a log.
 use Rattle.std.proofs.Common.{◌≡◌, ◌+◌, ◌<◌, ◌≤◌, ◌++◌, get_or, take, ℕ, Bool, true, false, cond, List, [], ◌∷◌, length, refl, ap, ◌∙◌, arith, add_comm, add-one, Some, None, nat_lt, ltb-false}
-use Rattle.std.specs.Prelude.{insert, position, not}
+use Rattle.std.specs.Prelude.{insert, map, position, not}
 use Rattle.std.specs.List.{position_or_len}
 use Rattle.std.proofs.lemmas.List.Recursion.{is_position_or_len}
 use Rattle.std.proofs.lemmas.List.Sums.{prefix_len-le-length}
@@ -9,8 +9,7 @@ use Rattle.lr_base.specs.declared.messages.LogAck.{LogAck}
 use Rattle.lr_base.specs.Rules.{is_before, put_ack, put_acks, put_update, put_updates}
 use Rattle.std.proofs.Math.Seq.{take-suc}
 use Rattle.std.specs.Borrow.{Bor}
-use Rattle.lr_causal.specs.Items.{Items, items_of}
-use Rattle.lr_causal.specs.Waiting.{behind}
+use Rattle.lr_log.specs.Items.{Items, items_of}
 
 -- how many come before the first that passes
 abbrev place_in : {X : Type 0} → (X → Bool) → List X → ℕ
@@ -75,6 +74,10 @@ logged-more new own acks log u put is =
 pub acked-more : {O : Type 0} (updates : List (LogUpdate O)) (new own : List LogAck) (log : Items O) (a : LogAck) → new ≡ put_ack a own → items_of updates own ≡ log → items_of updates new ≡ record log { acks = put_ack a log.acks }
 acked-more updates new own log a put is =
     ap (λ (xs : List LogAck). items_of updates xs) put ∙ ap (λ (l : Items _). items_of l.updates (put_ack a l.acks)) is
+
+-- the updates behind references
+abbrev pub behind : {O : Type 0} → List (Bor (LogUpdate O)) → List (LogUpdate O)
+behind references = map (λ r. r.now) references
 
 -- updates with one more behind them are put one by one
 put_updates-more : {O : Type 0} (us xs : List (LogUpdate O)) (u : LogUpdate O) → put_updates (us ++ u ∷ []) xs ≡ put_update u (put_updates us xs)

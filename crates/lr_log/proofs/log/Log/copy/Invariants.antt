@@ -1,5 +1,5 @@
 use Rattle.std.proofs.Common.{◌≡◌, take}
-use Rattle.lr_causal.proofs.log.Log.copy.Given as goal
+use Rattle.lr_log.proofs.log.Log.copy.Given as goal
 
 -- as many updates are copied as turns were made
 abbrev pub invariant-loop-update : goal.invariant-loop-update

@@ -1,0 +1,33 @@
+-- Shapes of logged updates and of executed calls.
+use Rattle.std.specs.Prelude.{◌≡◌, ◌<◌, ℕ, length, List}
+use Rattle.std.specs.List.{slice_get}
+use Rattle.std.specs.Option.{ForSome}
+use Rattle.lr_base.specs.declared.names.Cid.{Cid}
+use Rattle.lr_base.specs.declared.messages.Known.{Known}
+use Rattle.lr_base.specs.declared.messages.LogUpdate.{LogUpdate}
+use Rattle.lr_base.specs.declared.lr_service.Kind.{Kind}
+use Rattle.lr_base.specs.Kinds.{IsUpdate}
+use Rattle.lr_base.specs.Rules.{known_of}
+
+-- an update whose stamp has these many parts, one of them for its place
+pub record Fits {Op : Type 0} (parts : ℕ) (u : LogUpdate Op) : Type 0 where
+  pub prev : length u.prev ≡ parts
+  pub place : u.spot.place < parts
+
+-- a logged update that can be applied: its stamp has these many parts, one of them for its place
+pub record IsLogged {Op : Type 0} (kind_of : Op → Kind) (parts : ℕ) (u : LogUpdate Op) : Type 0 where
+  pub prev : length u.prev ≡ parts
+  pub place : u.spot.place < parts
+  pub update : IsUpdate (kind_of u.op)
+
+-- each update of the list can be applied
+abbrev pub AllLogged : {Op : Type 0} → (Op → Kind) → ℕ → List (LogUpdate Op) → Type 0
+AllLogged kind_of parts updates = (k : ℕ) → ForSome (slice_get updates k) (IsLogged kind_of parts)
+
+-- each update of the list has a stamp of these many parts
+abbrev pub AllFit : {Op : Type 0} → ℕ → List (LogUpdate Op) → Type 0
+AllFit parts updates = (k : ℕ) → ForSome (slice_get updates k) (Fits parts)
+
+-- the stamp of each executed call has these many parts
+abbrev pub AllKnown : ℕ → List (Cid × Known) → Type 0
+AllKnown parts calls = (cid : Cid) → ForSome (known_of calls cid) (λ known. length known.stamp ≡ parts)
