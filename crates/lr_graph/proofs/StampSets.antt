@@ -196,8 +196,11 @@ module _ {Value Op : Type 0} (m : Meaning Value Op) (config : Config) (w : Facts
   pub same-central : IsCentral config w v
   same-central = record {
     sound = same.shared.sound;
-    replicas = λ i inside. (let tied = same.replicas i inside in (tied.1.replica, tied.1.there,
-        has-stamps i tied.1.replica (subst (λ state. IsReplicaAt m config w.accepted (w.received i) (logged config w i) (w.kept i) (w.held i) state) (sym tied.1.state_is) tied.2)));
+    replicas = λ i inside. (let tied = same.replicas i inside in (
+      tied.1.replica,
+      tied.1.there,
+      has-stamps i tied.1.replica (subst (λ state. IsReplicaAt m config w.accepted (w.received i) (logged config w i) (w.kept i) (w.held i) state) (sym tied.1.state_is) tied.2),
+    ));
     labels = λ client inside. (let f = same.shared.fronts_are client inside in (f.0, f.1, stands f.0.label (w.front client).label f.2.names f.2.set));
     messages = λ n p there. by_found n p (find (λ y. y.number == n) w.messages) refl (subst (λ o. SameOption (SameMessage m config w.accepted w.received same.issued (calls_in w)) (find (λ y. y.number == n) w.messages) o) there (same.shared.messages n));
   }

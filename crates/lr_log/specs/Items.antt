@@ -12,5 +12,6 @@ pub record Items (Op : Type 0) : Type 0 where
 abbrev pub item_count : {Op : Type 0} → Items Op → ℕ
 item_count log = length log.updates + length log.acks
 
+-- a log of these updates and acknowledgements
 abbrev pub items_of : {Op : Type 0} → List (LogUpdate Op) → List LogAck → Items Op
 items_of updates acks = record { updates = updates; acks = acks }

@@ -16,7 +16,8 @@ use Rattle.lr_base.specs.declared.messages.Gossip.{Gossip}
 use Rattle.lr_base.specs.declared.names.Actor.TheVariants.{Client, Replica}
 use Rattle.lr_base.specs.declared.names.Cid.{Cid}
 use Rattle.lr_base.specs.declared.names.Config.{Config}
-use Rattle.lr_causal.specs.Causal.{IsGossip, IsLogged}
+use Rattle.lr_base.specs.Logged.{IsLogged}
+use Rattle.lr_causal.specs.Causal.{IsGossip}
 use Rattle.lr_sim.proofs.Everywhere.{each-none, each-push}
 use Rattle.lr_sim.specs.Asked.{AllAsked, IsAsked}
 use Rattle.lr_sim.specs.Shapes.{AllFitting, IsFitting, IsShaped}

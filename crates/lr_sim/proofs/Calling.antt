@@ -7,7 +7,7 @@ use Rattle.lr_base.specs.declared.lr_service.Kind.TheVariants.{Query, Causal, Fo
 use Rattle.lr_base.specs.declared.names.Config.{Config}
 use Rattle.lr_base.specs.declared.messages.Message.{Message}
 use Rattle.lr_base.specs.Fronts.{FrontState, message_of}
-use Rattle.lr_causal.specs.Causal.{IsLogged}
+use Rattle.lr_base.specs.Logged.{IsLogged}
 use Rattle.lr_sim.specs.Shapes.{IsShaped}
 use Rattle.lr_sim.proofs.Everywhere.{each-none}
 
