@@ -1,15 +1,12 @@
 -- What every logged update keeps.
 use Rattle.std.proofs.Common.{◌≡◌, ℕ, zero, suc, Bool, true, false, List, [], ◌∷◌, refl, Some, None, subst}
-use Rattle.std.specs.Prelude.{filter, find, remove}
+use Rattle.std.specs.Prelude.{filter, find}
 use Rattle.std.specs.Option.{ForSome}
 use Rattle.lr_base.specs.declared.lr_service.Kind.{Kind}
 use Rattle.lr_base.specs.declared.messages.LogUpdate.{LogUpdate}
 use Rattle.lr_base.specs.Rules.{is_before, new_updates, put_update, put_updates}
-use Rattle.lr_base.specs.Logged.{IsLogged, AllFit, AllLogged}
+use Rattle.lr_base.specs.Logged.{IsLogged, AllLogged}
 use Rattle.lr_log.specs.Items.{Items}
-use Rattle.lr_causal.specs.Waiting.{behind}
-use Rattle.indexmap.proofs.SetLemmas.{map-remove}
-use Rattle.std.specs.Borrow.{Bor}
 
 module _ {Op : Type 0} (kind_of : Op → Kind) (parts : ℕ) where
   -- a list of such updates with one more in front
@@ -42,23 +39,6 @@ module _ {Op : Type 0} (kind_of : Op → Kind) (parts : ℕ) where
   -- a log that stayed
   pub AllLogged-same : (log new : Items Op) → new ≡ log → AllLogged kind_of parts log.updates → AllLogged kind_of parts new.updates
   AllLogged-same log new is all = rw is all
-
-  -- such updates without one of them
-  pub AllLogged-remove : (updates : List (LogUpdate Op)) (at : ℕ) → AllLogged kind_of parts updates → AllLogged kind_of parts (remove updates at)
-  AllLogged-remove [] zero all = all
-  AllLogged-remove [] (suc at) all = all
-  AllLogged-remove (u ∷ updates) zero all = λ k. all (suc k)
-  AllLogged-remove (u ∷ updates) (suc at) all = AllLogged-front u (remove updates at) (all 0 u refl) (AllLogged-remove updates at (λ k. all (suc k)))
-
-  -- their stamps fit
-  pub AllFit-logged : (most : ℕ) (updates same : List (LogUpdate Op)) → same ≡ updates → most ≡ parts → AllLogged kind_of parts updates → AllFit most same
-  AllFit-logged most updates same is long all = rw (is, long) (λ k u e. record { prev = (all k u e).prev; place = (all k u e).place })
-
-  -- such updates behind references, without one of them
-  pub AllLogged-behind : (references new : List (Bor (LogUpdate Op))) (at : ℕ) → new ≡ remove references at → AllLogged kind_of parts (behind references) → AllLogged kind_of parts (behind new)
-  AllLogged-behind references new at is all =
-      let others : behind (remove references at) ≡ remove (behind references) at = map-remove (λ (u : Bor (LogUpdate Op)). u.now) references at in
-      rw (is, others) (AllLogged-remove (behind references) at all)
 
   -- such updates under another name
   pub AllLogged-along : (count : ℕ) (updates same : List (LogUpdate Op)) → same ≡ updates → count ≡ parts → AllLogged kind_of parts updates → AllLogged kind_of count same

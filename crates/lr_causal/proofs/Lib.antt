@@ -1,5 +1,4 @@
 mod Facts
 mod LabelLemmas
-mod Ready
 mod StampRows
 mod Tables

@@ -1,4 +1,2 @@
-pub mod Applied
 pub mod Causal
 pub mod State
-pub mod Waiting

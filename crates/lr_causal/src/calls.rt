@@ -1,10 +1,10 @@
 //! Which calls were executed, and where.
-ghost use Rattle.std.specs.Prelude.{◌≡◌, ◌-◌, [], ◌∷◌, ◌++◌, length, map, take, None, is_some, IfOk, OnOk, OnErr};
+ghost use Rattle.std.specs.Prelude.{◌≡◌, [], map, IfOk};
 ghost use Rattle.std.specs.Option.{option_copied};
 ghost use Rattle.lr_base.specs.Rules.{known_of};
 
 use indexmap::IndexMap;
-use lr_base::{Cid, Known, NoMemory};
+use lr_base::{Cid, Executed, Known, NoMemory};
 use std::alloc::Global;
 use std::marker::Model;
 
@@ -41,30 +41,6 @@ impl CallTable {
         self.known.get(&cid)
     }
 
-    /// Whether the call was executed.
-    pub fn has(&self, cid: Cid) -> bool
-        ensures { result ≡ is_some (known_of self.now cid) }
-    {
-        self.known.contains_key(&cid)
-    }
-
-    /// Enters a call that isn't there.
-    pub fn enter(&mut self, cid: Cid, known: Known) -> Result<(), NoMemory>
-        requires { known_of self.old cid ≡ None }
-        ensures ok { OnOk result (self.new ≡ self.old ++ (cid, known) ∷ []) }
-        ensures err { OnErr result (self.new ≡ self.old) }
-    {
-        self.known.insert(cid, known)?;
-        Ok(())
-    }
-
-    /// Takes out the call that was entered last. A table with no call stays as it is.
-    pub fn leave(&mut self)
-        ensures { self.new ≡ take (length self.old - 1) self.old }
-    {
-        let _last = self.known.pop();
-    }
-
     /// A table equal to this one.
     pub fn copy(&self) -> Result<Self, NoMemory>
         ensures { IfOk result (λ copied. copied ≡ self.now) }
@@ -79,5 +55,22 @@ impl CallTable {
     {
         let cids = self.known.keys().copied().collect(alloc)?;
         Ok(cids)
+    }
+}
+
+impl Executed for CallTable {
+    ghost known = { λ table. table };
+
+    fn has(&self, cid: Cid) -> bool {
+        self.known.contains_key(&cid)
+    }
+
+    fn enter(&mut self, cid: Cid, entry: Known) -> Result<(), NoMemory> {
+        self.known.insert(cid, entry)?;
+        Ok(())
+    }
+
+    fn leave(&mut self) {
+        let _last = self.known.pop();
     }
 }

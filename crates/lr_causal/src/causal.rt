@@ -10,12 +10,12 @@ use crate::calls::CallTable;
 use crate::gossip::{copy_updates, new_acks, new_updates};
 use crate::labels::is_applied;
 use crate::lateness::late;
-use crate::value::Value;
 use lr_base::lr_service::{Operation, Service};
 use lr_base::{
     Call, Cid, Config, Fresh, Gossip, Known, LogUpdate, NoMemory, Rows, Spot, Stamp, Text,
 };
 use lr_log::Log;
+use lr_value::Value;
 use std::alloc::Global;
 
 /// The state of a replica that causal operations use.
@@ -326,12 +326,7 @@ impl<S: Service> Causal<S> {
         ensures config { config_of self.new ≡ config_of self.old }
         ensures me { me_of self.new ≡ me_of self.old }
     {
-        apply_logged(
-            self.log.allocator(),
-            self.log.updates(),
-            &mut self.value,
-            &mut self.calls,
-        )?;
+        apply_logged(self.log.updates(), &mut self.value, &mut self.calls)?;
         if self.config.replicas == 1 {
             self.log.clear_updates();
         }

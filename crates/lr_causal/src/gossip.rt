@@ -1,7 +1,7 @@
 //! Gossip among replicas: what is told, and what of it is new.
 ghost use Rattle.std.specs.Prelude.{◌≡◌, IfOk};
 ghost use Rattle.lr_base.specs.Rules.{is_new as is_new_at, new_acks as new_acks_of, new_updates as new_updates_of};
-ghost use Rattle.lr_causal.specs.Waiting.{behind};
+ghost use Rattle.lr_value.specs.Waiting.{behind};
 
 use crate::labels::part_or_zero;
 use lr_base::lr_service::Operation;

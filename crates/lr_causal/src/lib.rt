@@ -7,12 +7,10 @@ mod causal;
 mod gossip;
 mod labels;
 mod lateness;
-mod value;
 
 pub use calls::CallTable;
 pub use causal::Causal;
 pub use lateness::late;
-pub use value::Value;
 
 #[cfg(test)]
 mod tests;

@@ -1,7 +1,7 @@
 use Rattle.std.proofs.Common.{◌≡◌, ◌∙◌, ap}
 use Rattle.lr_base.specs.Rules.{new_updates}
 use Rattle.lr_log.specs.Items.{Items}
-use Rattle.lr_causal.specs.Waiting.{behind}
+use Rattle.lr_value.specs.Waiting.{behind}
 use Rattle.lr_causal.proofs.Facts.{AllLogged-gained, AllLogged-same}
 use Rattle.lr_causal.proofs.StampRows.{AllStamps-count}
 use Rattle.lr_causal.proofs.causal.Causal.take_gossip.Goals as goal

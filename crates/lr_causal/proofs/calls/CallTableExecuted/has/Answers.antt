@@ -1,0 +1,10 @@
+use Rattle.std.proofs.Common.{◌∙◌, ap, is_some}
+use Rattle.lr_causal.proofs.Tables.{lookup-known_of}
+use Rattle.lr_base.specs.Rules.{known_of}
+use Rattle.lr_causal.proofs.calls.CallTableExecuted.has.Goals as goal
+
+pub returns : goal.returns
+returns c =
+    c.contains_key.ensures
+    ∙ ap is_some (lookup-known_of c.self.inside.known.entries c.args.cid)
+    ∙ ap (λ table. is_some (known_of table c.args.cid)) c.self.view_is

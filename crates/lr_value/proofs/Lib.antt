@@ -1,0 +1,4 @@
+mod Ended
+mod Facts
+mod Ready
+mod Tables

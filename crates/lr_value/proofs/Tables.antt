@@ -1,0 +1,40 @@
+-- Tables of executed calls.
+use Rattle.std.proofs.Common.{◌≡◌, Bool, true, false, List, [], ◌∷◌, ◌++◌, length, Option, Some, None, is_some, refl, subst, ℕ}
+use Rattle.std.specs.Prelude.{find}
+use Rattle.std.specs.Borrow.{Bor}
+use Rattle.std.specs.Option.{ForSome, option_copied}
+use Rattle.lr_base.specs.declared.names.Cid.{Cid}
+use Rattle.lr_base.specs.declared.messages.Known.{Known}
+use Rattle.lr_base.specs.Rules.{same_cid, known_of}
+use Rattle.lr_base.specs.Logged.{AllKnown}
+
+-- what holds of all that was known, and of a call that is entered, holds of all that is known
+pub known_of-entered : (P : Known → Type 0) (calls : List (Cid × Known)) (cid q : Cid) (known : Known) → ForSome (known_of calls q) P → P known → ForSome (known_of (calls ++ (cid, known) ∷ []) q) P
+known_of-entered P [] cid q known before own = go (same_cid q cid) refl
+  where
+    go : (same : Bool) → same_cid q cid ≡ same → ForSome (known_of ((cid, known) ∷ []) q) P
+    go true is = rw is (λ x e. let it : known ≡ x = cc in subst P it own)
+    go false is = rw is (λ x e. let none : None ≡ Some x = e in cc)
+known_of-entered P (e ∷ calls) cid q known before own = go (same_cid q e.0) refl (λ later. known_of-entered P calls cid q known later own)
+  where
+    go : (same : Bool) → same_cid q e.0 ≡ same → (ForSome (known_of calls q) P → ForSome (known_of (calls ++ (cid, known) ∷ []) q) P) → ForSome (known_of ((e ∷ calls) ++ (cid, known) ∷ []) q) P
+    go true is later = let before' : ForSome (Some e.1) P = rw is at before in rw is before'
+    go false is later = let before' : ForSome (known_of calls q) P = rw is at before in rw is (later before')
+
+-- a table with one more call, whose stamp has as many parts
+pub AllKnown-entered : (parts : ℕ) (calls new : List (Cid × Known)) (cid : Cid) (known : Known) → new ≡ calls ++ (cid, known) ∷ [] → length known.stamp ≡ parts → AllKnown parts calls → AllKnown parts new
+AllKnown-entered parts calls new cid known is long all = rw is (λ q. known_of-entered (λ k. length k.stamp ≡ parts) calls cid q known (all q) long)
+
+-- a call is known where an entry of it is found
+pub found_known : (entries : List (Cid × Known)) (cid : Cid) → is_some (find (λ e. same_cid cid e.0) entries) ≡ is_some (known_of entries cid)
+found_known [] cid = refl
+found_known (e ∷ entries) cid = go (same_cid cid e.0) refl (found_known entries cid)
+  where
+    go : (same : Bool) → same_cid cid e.0 ≡ same → is_some (find (λ e. same_cid cid e.0) entries) ≡ is_some (known_of entries cid) → is_some (find (λ e. same_cid cid e.0) (e ∷ entries)) ≡ is_some (known_of (e ∷ entries) cid)
+    go true is later = rw is refl
+    go false is later = rw is later
+
+-- what a reference points to is there where the reference is
+pub some-copied : {A : Type 0} (found : Option (Bor A)) → is_some (option_copied found) ≡ is_some found
+some-copied None = refl
+some-copied (Some found) = refl

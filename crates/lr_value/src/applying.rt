@@ -1,0 +1,174 @@
+//! Applying logged updates to a value, each call once.
+ghost use Rattle.std.specs.Prelude.{◌≡◌, ◌<◌, ◌≤◌, ◌++◌, ◌∷◌, [], None, length, not, IsNone, IfSome, IfOk, OnOk, OnErr};
+ghost use Rattle.lr_base.specs.Kinds.{IsUpdate};
+ghost use Rattle.lr_base.specs.Logged.{AllFit, Fits, AllKnown, AllLogged, IsLogged};
+ghost use Rattle.lr_base.specs.Rules.{apply_one, apply_ready as rule, is_covered, known_of, stamp_of, take_ready, waiting as waiting_of};
+ghost use Rattle.lr_value.specs.Applied.{progress};
+ghost use Rattle.lr_value.specs.Waiting.{behind, TakesAt};
+
+use crate::value::Value;
+use lr_base::lr_service::Service;
+use lr_base::{Executed, Known, LogUpdate, NoMemory, Stamp};
+use std::alloc::Global;
+
+// Executes a call that wasn't executed. Where the update finds no memory, the call is taken out again.
+fn run_call<S: Service, E: Executed>(
+    value: &mut Value<S>,
+    calls: &mut E,
+    update: &LogUpdate<S::Op>,
+    stamp: &Stamp,
+) -> Result<(), NoMemory>
+    requires new { known_of (E.known calls.old) update.now.cid ≡ None }
+    requires update { IsUpdate (S.Op.kind_of update.now.op) }
+    ensures value { OnOk result (value.new ≡ record value.old { value = S.meaning.apply value.old.value update.now.op }) }
+    ensures calls { OnOk result (E.known calls.new ≡ E.known calls.old ++ (update.now.cid, record { spot = update.now.spot; stamp = stamp.now }) ∷ []) }
+    ensures err_value { OnErr result (value.new ≡ value.old) }
+    ensures err_calls { OnErr result (E.known calls.new ≡ E.known calls.old) }
+    ensures known { AllKnown (length stamp.now) (E.known calls.old) → AllKnown (length stamp.now) (E.known calls.new) }
+{
+    let known = Known {
+        spot: update.spot,
+        stamp: stamp.copy(),
+    };
+    calls.enter(update.cid, known)?;
+    let Ok(()) = value.apply(&update.op) else {
+        calls.leave();
+        return Err(NoMemory);
+    };
+    Ok(())
+}
+
+// Applies one update: its call is executed unless it was before, and its stamp is covered either way.
+fn execute<S: Service, E: Executed>(
+    value: &mut Value<S>,
+    calls: &mut E,
+    update: &LogUpdate<S::Op>,
+) -> Result<(), NoMemory>
+    requires logged { IsLogged S.Op.kind_of (length value.old.val_ts) update.now }
+    ensures ok { OnOk result (progress value.new (E.known calls.new) ≡ apply_one S.meaning (progress value.old (E.known calls.old)) update.now) }
+    ensures err_value { OnErr result (value.new ≡ value.old) }
+    ensures err_calls { OnErr result (E.known calls.new ≡ E.known calls.old) }
+    ensures parts { length value.new.val_ts ≡ length value.old.val_ts }
+    ensures known { AllKnown (length value.old.val_ts) (E.known calls.old) → AllKnown (length value.old.val_ts) (E.known calls.new) }
+{
+    let stamp = update.stamp();
+    if !calls.has(update.cid) {
+        run_call(value, calls, update, &stamp)?;
+    }
+    value.cover(&stamp);
+    Ok(())
+}
+
+// Whether an update doesn't count as applied to a value with this stamp.
+fn is_waiting<O: Drop>(update: &LogUpdate<O>, val_ts: &Stamp) -> bool
+    requires { Fits (length val_ts.now) update.now }
+    ensures { result ≡ not (is_covered val_ts.now update.now) }
+{
+    !update.stamp().le(val_ts)
+}
+
+/// How many updates don't count as applied.
+pub fn count_waiting<O: Drop>(updates: &[LogUpdate<O>], val_ts: &Stamp) -> usize
+    requires { AllFit (length val_ts.now) updates.now }
+    ensures { result ≡ length (waiting_of val_ts.now updates.now) }
+{
+    let mut count = 0;
+    for update in updates {
+        if is_waiting(update, val_ts) {
+            count += 1;
+        }
+    }
+    count
+}
+
+// The updates that don't count as applied, in their order.
+fn waiting<'a, O: Drop>(
+    alloc: Global,
+    updates: &'a [LogUpdate<O>],
+    val_ts: &Stamp,
+) -> Result<Vec<&'a LogUpdate<O>>, NoMemory>
+    requires { AllFit (length val_ts.now) updates.now }
+    ensures { IfOk result (λ found. behind found.items ≡ waiting_of val_ts.now updates.now) }
+{
+    let mut found = Vec::new(alloc);
+    for update in updates {
+        if is_waiting(update, val_ts) {
+            found.push(update)?;
+        }
+    }
+    Ok(found)
+}
+
+// The first waiting update whose causes are applied.
+fn first_ready<O>(waiting: &[&LogUpdate<O>], val_ts: &Stamp) -> Option<usize>
+    requires { AllFit (length val_ts.now) (behind waiting.now) }
+    ensures none { IsNone result → take_ready val_ts.now (behind waiting.now) ≡ None }
+    ensures within { IfSome result (λ at. at < length waiting.now) }
+    ensures first { IfSome result (λ at. TakesAt val_ts.now (behind waiting.now) at) }
+{
+    for at in 0..waiting.len() {
+        if waiting[at].prev.le(val_ts) {
+            return Some(at);
+        }
+    }
+    None
+}
+
+// Applies what waits, each time the first whose causes are applied, until none is left that may be.
+fn apply_all<S: Service, E: Executed>(
+    value: &mut Value<S>,
+    calls: &mut E,
+    mut waiting: Vec<&LogUpdate<S::Op>>,
+) -> Result<(), NoMemory>
+    requires { AllLogged S.Op.kind_of (length value.old.val_ts) (behind waiting.items) }
+    ensures ok { OnOk result (progress value.new (E.known calls.new) ≡ rule S.meaning (length waiting.entry.items) (behind waiting.entry.items) (progress value.old (E.known calls.old))) }
+    ensures parts { length value.new.val_ts ≡ length value.old.val_ts }
+    ensures known { AllKnown (length value.old.val_ts) (E.known calls.old) → AllKnown (length value.old.val_ts) (E.known calls.new) }
+{
+    while let Some(at) = first_ready(waiting.as_slice(), value.val_ts()) {
+        let update = waiting.remove(at);
+        execute(value, calls, update)?;
+    }
+    Ok(())
+}
+
+// Applies the only update that waits, if its causes are applied.
+fn apply_only<S: Service, E: Executed>(
+    value: &mut Value<S>,
+    calls: &mut E,
+    update: &LogUpdate<S::Op>,
+) -> Result<(), NoMemory>
+    requires { IsLogged S.Op.kind_of (length value.old.val_ts) update.now }
+    ensures ok { OnOk result (progress value.new (E.known calls.new) ≡ rule S.meaning 1 (update.now ∷ []) (progress value.old (E.known calls.old))) }
+    ensures err_value { OnErr result (value.new ≡ value.old) }
+    ensures err_calls { OnErr result (E.known calls.new ≡ E.known calls.old) }
+    ensures parts { length value.new.val_ts ≡ length value.old.val_ts }
+    ensures known { AllKnown (length value.old.val_ts) (E.known calls.old) → AllKnown (length value.old.val_ts) (E.known calls.new) }
+{
+    if update.prev.le(value.val_ts()) {
+        execute(value, calls, update)?;
+    }
+    Ok(())
+}
+
+/// Applies the logged updates that are ready. Where one waits at the most, want of memory changes nothing.
+pub fn apply_logged<S: Service, E: Executed>(
+    alloc: Global,
+    updates: &[LogUpdate<S::Op>],
+    value: &mut Value<S>,
+    calls: &mut E,
+) -> Result<(), NoMemory>
+    requires { AllLogged S.Op.kind_of (length value.old.val_ts) updates.now }
+    ensures ok { let todo = waiting_of value.old.val_ts updates.now in OnOk result (progress value.new (E.known calls.new) ≡ rule S.meaning (length todo) todo (progress value.old (E.known calls.old))) }
+    ensures err_value { OnErr result (length (waiting_of value.old.val_ts updates.now) ≤ 1 → value.new ≡ value.old) }
+    ensures err_calls { OnErr result (length (waiting_of value.old.val_ts updates.now) ≤ 1 → E.known calls.new ≡ E.known calls.old) }
+    ensures parts { length value.new.val_ts ≡ length value.old.val_ts }
+    ensures known { AllKnown (length value.old.val_ts) (E.known calls.old) → AllKnown (length value.old.val_ts) (E.known calls.new) }
+{
+    let found = waiting(alloc, updates, value.val_ts())?;
+    match found.as_slice() {
+        [] => Ok(()),
+        [only] => apply_only(value, calls, only),
+        _ => apply_all(value, calls, found),
+    }
+}
