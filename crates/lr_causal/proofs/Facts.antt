@@ -5,7 +5,7 @@ use Rattle.std.specs.Option.{ForSome}
 use Rattle.lr_base.specs.declared.lr_service.Kind.{Kind}
 use Rattle.lr_base.specs.declared.messages.LogUpdate.{LogUpdate}
 use Rattle.lr_base.specs.Rules.{is_before, new_updates, put_update, put_updates}
-use Rattle.lr_base.specs.Logged.{IsLogged, AllFit, AllLogged}
+use Rattle.lr_base.specs.Logged.{IsLogged, AllLogged}
 use Rattle.lr_log.specs.Items.{Items}
 
 module _ {Op : Type 0} (kind_of : Op → Kind) (parts : ℕ) where

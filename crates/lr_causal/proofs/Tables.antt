@@ -1,6 +1,5 @@
 -- The entries of an indexed map, as the table of executed calls.
-use Rattle.std.proofs.Common.{◌≡◌, Bool, true, false, List, [], ◌∷◌, ◌++◌, length, Some, None, refl, subst, ℕ}
-use Rattle.std.specs.Option.{ForSome}
+use Rattle.std.proofs.Common.{◌≡◌, List, [], ◌∷◌, refl, ℕ}
 use Rattle.std.specs.Map.{lookup}
 use Rattle.lr_base.specs.declared.names.Cid.{Cid}
 use Rattle.lr_base.specs.declared.messages.Known.{Known}
