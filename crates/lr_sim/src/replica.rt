@@ -77,11 +77,7 @@ impl<S: Service> Replica<S> {
     }
 
     // What the message itself does.
-    fn take_own(
-        &mut self,
-        from: Actor,
-        message: &Message<S::Op>,
-    ) -> Result<Acts<S::Op>, NoMemory>
+    fn take_own(&mut self, from: Actor, message: &Message<S::Op>) -> Result<Acts<S::Op>, NoMemory>
         requires shaped { IsShaped S.Op.kind_of self.old.config message.now }
         requires from { is_actor self.old.config from ≡ true }
         ensures acts { IfOk result (λ acts. AllFitting S.Op.kind_of self.old.config acts.items) }
@@ -113,11 +109,7 @@ impl<S: Service> Replica<S> {
     }
 
     // A replica's message: gossip of another is taken, and nothing else has a rule here.
-    fn take_gossip(
-        &mut self,
-        from: u8,
-        message: &Message<S::Op>,
-    ) -> Result<Acts<S::Op>, NoMemory>
+    fn take_gossip(&mut self, from: u8, message: &Message<S::Op>) -> Result<Acts<S::Op>, NoMemory>
         requires shaped { IsShaped S.Op.kind_of self.old.config message.now }
         requires from { from < self.old.config.replicas }
         ensures acts { IfOk result (λ acts. AllFitting S.Op.kind_of self.old.config acts.items) }
