@@ -28,7 +28,7 @@ const REFUSED: [(&[&str], &str, &str, u8); 17] = [
     ),
     (
         &["lazyrep", "sim"],
-        "lazyrep 1 tally 2 1 10\n",
+        "lazyrep 1 tally 10 1 10\n",
         "lazyrep: line 1: header\n",
         3,
     ),
