@@ -3,13 +3,13 @@ use Rattle.std.proofs.Common.{◌≡◌, ◌≢◌, ◌⊎◌, inl, inr, ℕ, Li
 use Rattle.std.proofs.KnownBytes.{Appends-nil}
 use Rattle.lr_base.specs.Meaning.{Meaning}
 use Rattle.lr_sim.specs.Ends.{HasRead, IsComplete, IsFault, Means, no_memory, was_read}
-use Rattle.lr_sim.specs.Faults.{IsScriptFault}
+use Rattle.lr_script.specs.Faults.{IsScriptFault}
 use Rattle.lr_sim.specs.declared.command.SimEnd.{SimEnd}
 use Rattle.lr_sim.specs.declared.command.SimEnd.TheVariants.{Ok as Done, Script, ReadFault, WriteFault, NoMemory}
-use Rattle.lr_sim.specs.declared.script.ScriptFault.{ScriptFault}
-use Rattle.lr_sim.specs.declared.script.ScriptFault.TheVariants.{Line, NoMemory as NoMemoryLeft}
-use Rattle.lr_sim.proofs.Refusing.{refusal}
-use Rattle.lr_sim.proofs.ShownTexts.{ArePrintable}
+use Rattle.lr_script.specs.declared.refusals.ScriptFault.{ScriptFault}
+use Rattle.lr_script.specs.declared.refusals.ScriptFault.TheVariants.{Line, NoMemory as NoMemoryLeft}
+use Rattle.lr_script.proofs.Refusing.{refusal}
+use Rattle.lr_script.proofs.ShownTexts.{ArePrintable}
 
 module _ {Value Op : Type 0} (m : Meaning Value Op) where
   -- a script's fault ends the simulation with nothing written

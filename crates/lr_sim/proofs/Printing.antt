@@ -12,9 +12,9 @@ use Rattle.lr_graph.specs.Runs.{IsEventOf, history_of}
 use Rattle.lr_sim.specs.Ends.{HasRun, HasRunPart}
 use Rattle.lr_sim.specs.Headline.{HasBegun, HasPrinted}
 use Rattle.lr_sim.specs.Rendered.{HasRendered, HasRenderedPart}
-use Rattle.lr_sim.specs.Script.{Fits, IsSetUp, events_text, line_of}
-use Rattle.lr_sim.specs.Texts.{header_text}
-use Rattle.lr_sim.specs.declared.script.Header.{Header}
+use Rattle.lr_script.specs.Script.{Fits, IsSetUp, events_text, line_of}
+use Rattle.lr_script.specs.Texts.{header_text}
+use Rattle.lr_script.specs.declared.heading.Header.{Header}
 
 module _ {Value Op : Type 0} (m : Meaning Value Op) (plain : (op : Op) → IsPlain (m.kind op)) (config : Config) where
   event-of : (event : Event Op) → Fits m config event → IsEventOf m config event

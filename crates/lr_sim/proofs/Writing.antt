@@ -8,14 +8,14 @@ use Rattle.lr_base.specs.Meaning.{Meaning}
 use Rattle.lr_base.specs.declared.events.Event.{Event}
 use Rattle.lr_base.specs.declared.events.Outcome.{Outcome}
 use Rattle.lr_base.specs.declared.events.Step.{Step}
-use Rattle.lr_sim.proofs.PrintedLemmas.{steps_text-more}
-use Rattle.lr_sim.proofs.RunLemmas.{length-steps_from, run_after-more, steps_from-more}
-use Rattle.lr_sim.specs.Printed.{step_text, steps_text}
+use Rattle.lr_report.proofs.PrintedLemmas.{steps_text-more}
+use Rattle.lr_world.proofs.RunLemmas.{length-steps_from, run_after-more, steps_from-more}
+use Rattle.lr_report.specs.Printed.{step_text, steps_text}
 use Rattle.lr_graph.specs.Runs.{RunState, first_run, run_after, stepped, steps_from}
-use Rattle.lr_sim.specs.Script.{line_of}
-use Rattle.lr_sim.specs.Texts.{header_text}
+use Rattle.lr_script.specs.Script.{line_of}
+use Rattle.lr_script.specs.Texts.{header_text}
 use Rattle.lr_sim.specs.Rendered.{HasRendered, HasRenderedPart, HasMoved}
-use Rattle.lr_sim.specs.declared.script.Header.{Header}
+use Rattle.lr_script.specs.declared.heading.Header.{Header}
 
 module _ {Value Op : Type 0} (m : Meaning Value Op) where
   -- before the first event only the header is to be written

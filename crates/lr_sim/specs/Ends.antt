@@ -4,16 +4,16 @@ use Rattle.std.specs.Io.KnownBytes.{Appends, Consumes, IsAtEnd}
 use Rattle.lr_base.specs.Meaning.{Meaning}
 use Rattle.lr_base.specs.declared.events.Event.{Event}
 use Rattle.lr_outside.specs.Faults.{Rose}
-use Rattle.lr_sim.specs.Faults.{IsScriptFault}
+use Rattle.lr_script.specs.Faults.{IsScriptFault}
 use Rattle.lr_sim.specs.Headline.{HasBegun, HasPrinted}
-use Rattle.lr_sim.specs.Script.{IsNoScript, IsScript}
+use Rattle.lr_script.specs.Script.{IsNoScript, IsScript}
 use Rattle.lr_sim.specs.declared.command.SimEnd.{SimEnd}
 use Rattle.lr_sim.specs.declared.command.SimEnd.TheVariants.{Ok as Done, Script, ReadFault, WriteFault, NoMemory}
-use Rattle.lr_sim.specs.declared.script.Cause.{Cause}
-use Rattle.lr_sim.specs.declared.script.Cause.TheVariants.{TooLong}
-use Rattle.lr_sim.specs.declared.script.Header.{Header}
-use Rattle.lr_sim.specs.declared.script.ScriptFault.{ScriptFault}
-use Rattle.lr_sim.specs.declared.script.ScriptFault.TheVariants.{Line, NoMemory as NoMemoryLeft}
+use Rattle.lr_script.specs.declared.refusals.Cause.{Cause}
+use Rattle.lr_script.specs.declared.refusals.Cause.TheVariants.{TooLong}
+use Rattle.lr_script.specs.declared.heading.Header.{Header}
+use Rattle.lr_script.specs.declared.refusals.ScriptFault.{ScriptFault}
+use Rattle.lr_script.specs.declared.refusals.ScriptFault.TheVariants.{Line, NoMemory as NoMemoryLeft}
 
 -- a script's fault ends the simulation with its line and cause, or for want of memory
 abbrev pub IsFault : ScriptFault → SimEnd → Type 0

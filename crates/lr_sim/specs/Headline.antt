@@ -5,8 +5,8 @@ use Rattle.lr_base.specs.Meaning.{Meaning}
 use Rattle.lr_base.specs.declared.events.Event.{Event}
 use Rattle.lr_base.specs.declared.events.Step.{Step}
 use Rattle.lr_graph.specs.Legal.{IsLegal}
-use Rattle.lr_sim.specs.Printed.{printed}
-use Rattle.lr_sim.specs.declared.script.Header.{Header}
+use Rattle.lr_report.specs.Printed.{printed}
+use Rattle.lr_script.specs.declared.heading.Header.{Header}
 
 -- there is a legal history of just these events; what was written is the front of its printed form, and this is the rest of it
 pub record HasPrinted {Value Op : Type 0} (m : Meaning Value Op) (header : Header) (events : List (Event Op)) (before now : Option (List ℕ)) (rest : List ℕ) : Type 0 where

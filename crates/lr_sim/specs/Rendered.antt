@@ -4,8 +4,8 @@ use Rattle.std.specs.Io.KnownBytes.{Appends}
 use Rattle.lr_base.specs.Meaning.{Meaning}
 use Rattle.lr_base.specs.declared.events.Event.{Event}
 use Rattle.lr_graph.specs.Runs.{history_of}
-use Rattle.lr_sim.specs.Printed.{printed}
-use Rattle.lr_sim.specs.declared.script.Header.{Header}
+use Rattle.lr_report.specs.Printed.{printed}
+use Rattle.lr_script.specs.declared.heading.Header.{Header}
 
 -- the history that the rules make of these events was printed: what was written is the front of its text, and this is the rest
 pub record HasRendered {Value Op : Type 0} (m : Meaning Value Op) (header : Header) (events : List (Event Op)) (before now : Option (List ℕ)) (rest : List ℕ) : Type 0 where

@@ -6,8 +6,8 @@ ghost use Rattle.lr_base.specs.Tally.{tally};
 ghost use Rattle.lr_outside.specs.Faults.{Rose};
 ghost use Rattle.lr_sim.specs.Ends.{IsComplete, IsFault, Means, SimEnded, SimMeans};
 ghost use Rattle.lr_sim.specs.Rendered.{HasMoved, HasRendered, HasRenderedPart};
-ghost use Rattle.lr_sim.specs.Script.{Fits, IsSetUp, line_of};
-ghost use Rattle.lr_sim.specs.Texts.{header_text};
+ghost use Rattle.lr_script.specs.Script.{Fits, IsSetUp, line_of};
+ghost use Rattle.lr_script.specs.Texts.{header_text};
 
 use crate::report::{render_header, render_step};
 use crate::script::{Cause, Header, Name, ScriptFault, read_events, split_header};

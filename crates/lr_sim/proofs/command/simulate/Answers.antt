@@ -1,7 +1,7 @@
 use Rattle.lr_base.specs.Tally.{tally}
 use Rattle.lr_base.specs.TallyLaw.{tally_lawful}
 use Rattle.lr_sim.proofs.Ending.{fault-means}
-use Rattle.lr_sim.proofs.ScriptRefusals.{head_fault}
+use Rattle.lr_script.proofs.ScriptRefusals.{head_fault}
 use Rattle.lr_sim.proofs.command.simulate.Goals as goal
 
 pub returns-in-Err-clause-meant : goal.returns-in-Err-clause-meant

@@ -1,7 +1,7 @@
 use Rattle.std.proofs.Common.{inr}
 use Rattle.lr_sim.proofs.Ending.{fault-means}
 use Rattle.lr_sim.proofs.Printing.{run-part, run-whole}
-use Rattle.lr_sim.proofs.ScriptRefusals.{lines_fault}
+use Rattle.lr_script.proofs.ScriptRefusals.{lines_fault}
 use Rattle.lr_sim.proofs.command.simulate_lines.Goals as goal
 
 pub returns-in-Err-Write-clause-meant : goal.returns-in-Err-Write-clause-meant

@@ -1,8 +1,8 @@
 use Rattle.std.proofs.Common.{◌∙◌, ◌+◌, ◌++◌, List, ℕ, ap, refl, arith}
 use Rattle.lr_graph.specs.Runs.{stepped}
-use Rattle.lr_sim.specs.Script.{Fits, line_of}
-use Rattle.lr_sim.specs.Texts.{header_text}
-use Rattle.lr_sim.proofs.InRange.{All-read, IsInRange-fits}
+use Rattle.lr_script.specs.Script.{Fits, line_of}
+use Rattle.lr_script.specs.Texts.{header_text}
+use Rattle.lr_world.proofs.InRange.{All-read, IsInRange-fits}
 use Rattle.lr_sim.proofs.Writing.{begun-none, begun-part, moved-all, moved-front, printed-all, printed-moved, printed-next, printed-none, run-next}
 use Rattle.lr_sim.proofs.command.write_history.Goals as goal
 

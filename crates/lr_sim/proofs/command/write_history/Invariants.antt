@@ -1,6 +1,6 @@
 use Rattle.std.proofs.Common.{◌≡◌, ◌≤◌, take}
 use Rattle.lr_graph.specs.Runs.{first_run, run_after}
-use Rattle.lr_sim.specs.Worlds.{run_of, setup_of}
+use Rattle.lr_world.specs.Worlds.{run_of, setup_of}
 use Rattle.lr_sim.specs.Rendered.{HasRendered}
 use Rattle.lr_sim.proofs.command.write_history.Given as goal
 

@@ -1,0 +1,6 @@
+pub mod DigitsApart
+pub mod FieldsApart
+pub mod StatesApart
+pub mod OutcomesApart
+pub mod HistoriesApart
+pub mod PrintedLemmas

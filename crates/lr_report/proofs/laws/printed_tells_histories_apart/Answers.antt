@@ -1,0 +1,5 @@
+use Rattle.lr_report.proofs.HistoriesApart.{histories_apart}
+use Rattle.lr_report.proofs.laws.printed_tells_histories_apart.Goals as goal
+
+pub returns : goal.returns
+returns g c = histories_apart g.S.Service.meaning _ g.met.S.Service.lawful

@@ -1,0 +1,4 @@
+pub mod Texts
+pub mod Printed
+pub mod Tellable
+pub mod PrintedLaws

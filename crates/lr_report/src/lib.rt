@@ -1,0 +1,13 @@
+//! How a history is printed: the header's line, and each event's lines.
+#![tactic(auto)]
+
+mod laws;
+mod names;
+mod outcome_lines;
+mod rendering;
+mod state_lines;
+#[cfg(test)]
+mod tests;
+
+pub use laws::printed_tells_histories_apart;
+pub use rendering::{render_header, render_step};

@@ -1,0 +1,70 @@
+-- Which bytes are too long, and what a refusal says of them.
+use Rattle.std.proofs.Common.{◌≡◌, ◌<◌, ◌≤◌, ◌↔◌, ◌⊎◌, inl, inr, ℕ, List, ◌++◌, length, Result, Ok, Err, refl, ap, subst, arith}
+use Rattle.std.specs.Prelude.{IfErr}
+use Rattle.lr_base.specs.Meaning.{Meaning}
+use Rattle.lr_base.specs.declared.names.Config.{Config}
+use Rattle.lr_script.specs.Faults.{IsBadAt, IsBadEvent, IsBadFields, IsBadHead, IsBadLine, IsHeadFault, IsLineFault, IsNoLine, IsRefusal, IsRefused, IsScriptFault, bad_head, bad_rest, empty, no_event, no_header, no_line, too_long}
+use Rattle.lr_script.specs.declared.refusals.Cause.{Cause}
+use Rattle.lr_script.specs.declared.refusals.Cause.TheVariants.{Header as NoHeader, TooLong}
+use Rattle.lr_script.specs.declared.refusals.ScriptFault.{ScriptFault}
+use Rattle.lr_script.specs.declared.refusals.ScriptFault.TheVariants.{Line, NoMemory}
+use Rattle.lr_script.specs.declared.heading.Header.{Header}
+use Rattle.lr_script.specs.Script.{IsSetUp, line_of}
+use Rattle.lr_script.specs.Texts.{header_text}
+use Rattle.lr_script.specs.declared.fields.EventWord.{EventWord}
+use Rattle.lr_script.specs.declared.fields.EventWord.TheVariants.{Call, Deliver, Gossip, Show}
+use Rattle.lr_script.proofs.ScriptRefusals.{head_fault, lines_fault, refuted}
+use Rattle.lr_script.proofs.ShownTexts.{ArePrintable}
+
+module _ {Value Op : Type 0} (m : Meaning Value Op) where
+  -- no line is too long
+  fields_fit : (config : Config) (word : EventWord) (rest : List ℕ) → IsBadFields m config word rest TooLong → ⊥
+  fields_fit config Call rest bad = bad
+  fields_fit config Deliver rest bad = bad
+  fields_fit config Gossip rest bad = bad
+  fields_fit config Show rest bad = bad
+
+  event_fits : (config : Config) (line : List ℕ) (cause : Cause) → cause ≡ TooLong → IsBadEvent m config line cause → ⊥
+  event_fits config line cause is (Rattle.lr_script.specs.Faults.no_word alone behind) = cc
+  event_fits config line cause is (Rattle.lr_script.specs.Faults.word_alone word e) = cc
+  event_fits config line cause is (bad_rest word rest why e bad) = fields_fit config word rest (subst (λ (c : Cause). IsBadFields m config word rest c) is bad)
+
+  line_fits : (config : Config) (bytes : List ℕ) (cause : Cause) → cause ≡ TooLong → IsBadLine m config bytes cause → ⊥
+  line_fits config bytes cause is (no_line why bad) = subst (λ (c : Cause). IsNoLine bytes c) is bad
+  line_fits config bytes cause is (no_event line later why e printable bad) = event_fits config line why is bad
+
+  head_long : (bytes : List ℕ) (line : ℕ) (cause : Cause) → IsBadHead bytes line cause → (cause ≡ TooLong) ↔ (8388608 < length bytes)
+  head_long bytes line cause (too_long h) = ((λ e. h), (λ l. refl))
+  head_long bytes line cause (empty e) = ((λ same. absurd (header_other same)), (λ l. let none : length bytes ≡ 0 = ap length e in absurd (omega arith)))
+    where
+      header_other : ◌≡◌ {A = Cause} NoHeader TooLong → ⊥
+      header_other e = cc
+  head_long bytes line cause (bad_head why short some bad) = ((λ is. absurd (subst (λ (c : Cause). IsNoLine bytes c) is bad)), (λ l. absurd (omega arith)))
+  head_long bytes line cause (no_header text later short e printable none) = ((λ same. absurd (header_other same)), (λ l. absurd (omega arith)))
+    where
+      header_other : ◌≡◌ {A = Cause} NoHeader TooLong → ⊥
+      header_other e = cc
+
+  at_short : (bytes : List ℕ) (line : ℕ) (cause : Cause) → IsBadAt m bytes line cause → (cause ≡ TooLong) ↔ (8388608 < length bytes)
+  at_short bytes line cause at = ((λ is. absurd (line_fits at.header.config at.bad.rest cause is at.bad.bad)), (λ l. let short = at.short in absurd (omega arith)))
+
+  -- a fault at a line is a refusal
+  pub refusal : ArePrintable m → (bytes : List ℕ) (line : ℕ) (cause : Cause) → IsScriptFault m bytes (Line line cause) → IsRefusal m bytes line cause
+  refusal ops bytes line cause fault = record { meaningless = refuted m ops bytes line cause fault; fault = fault; long = long fault }
+    where
+      long : IsBadHead bytes line cause ⊎ IsBadAt m bytes line cause → (cause ≡ TooLong) ↔ (8388608 < length bytes)
+      long (inl bad) = head_long bytes line cause bad
+      long (inr bad) = at_short bytes line cause bad
+
+  refused : ArePrintable m → (bytes : List ℕ) (fault : ScriptFault) → IsScriptFault m bytes fault → IsRefused m bytes fault
+  refused ops bytes (Line line cause) fault = refusal ops bytes line cause fault
+  refused ops bytes NoMemory fault = tt
+
+  -- a header that was not read refuses the bytes, whatever the service is
+  pub head_refused : ArePrintable m → (bytes : List ℕ) (fault : ScriptFault) → IsHeadFault bytes fault → IsRefused m bytes fault
+  head_refused ops bytes fault h = refused ops bytes fault (head_fault m bytes fault h)
+
+  -- and so does a line behind a header
+  pub lines_refused : ArePrintable m → (bytes lines : List ℕ) (header : Header) → IsSetUp header.config → length bytes ≤ 8388608 → bytes ≡ line_of (header_text header) ++ lines → {T : Type 0} (result : Result T ScriptFault) → IfErr result (IsLineFault m header.config lines) → IfErr result (IsRefused m bytes)
+  lines_refused ops bytes lines header set short e (Ok value) h = h
+  lines_refused ops bytes lines header set short e (Err fault) h = refused ops bytes fault (lines_fault m bytes lines header set short e fault h)

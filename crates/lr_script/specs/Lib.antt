@@ -1,0 +1,5 @@
+pub mod Fields
+pub mod Texts
+pub mod Script
+pub mod Faults
+pub mod CutLaws

@@ -1,0 +1,51 @@
+-- What a script says: its header and its events, and which bytes they are written as.
+use Rattle.std.specs.Prelude.{◌≡◌, ◌≢◌, ℕ, ◌<◌, ◌≤◌, ◌^◌, true, List, [], ◌∷◌, ◌++◌, length}
+use Rattle.std.specs.List.{All, flat_map}
+use Rattle.lr_base.specs.Config.{IsValid}
+use Rattle.lr_base.specs.Meaning.{Meaning}
+use Rattle.lr_base.specs.declared.events.Event.{Event}
+use Rattle.lr_base.specs.declared.events.Event.TheVariants.{Call, Deliver, Gossip, Show}
+use Rattle.lr_base.specs.declared.names.Config.{Config}
+use Rattle.lr_script.specs.declared.heading.Header.{Header}
+use Rattle.lr_script.specs.Texts.{header_text, event_text}
+
+-- a line is ended by a line feed
+abbrev pub line_of : List ℕ → List ℕ
+line_of text = text ++ 10 ∷ []
+
+-- the events' lines
+abbrev pub events_text : {Value Op : Type 0} → Meaning Value Op → List (Event Op) → List ℕ
+events_text m events = flat_map (λ event. line_of (event_text m event)) events
+
+-- a script: the header's line and the events' lines
+abbrev pub script_text : {Value Op : Type 0} → Meaning Value Op → Header → List (Event Op) → List ℕ
+script_text m header events = line_of (header_text header) ++ events_text m events
+
+-- a script may ask for this: 1 to 9 replicas, 1 to 64 clients, and a number
+pub record IsSetUp (config : Config) : Type 0 where
+  pub valid : IsValid config
+  pub number : config.delta < 2 ^ 64
+
+-- an event names a client and a replica that there are, numbers that fit, and an operation of the service
+abbrev pub Fits : {Value Op : Type 0} → Meaning Value Op → Config → Event Op → Type 0
+Fits m config (Call client replica reading op) = (client < config.clients) × (replica < config.replicas) × (reading < 2 ^ 64) × (m.is_op op ≡ true)
+Fits m config (Deliver message) = message < 2 ^ 64
+Fits m config (Gossip from to) = (from < config.replicas) × (to < config.replicas) × (from ≢ to)
+Fits m config (Show replica) = replica < config.replicas
+
+-- the bytes begin with this header's line
+pub record HasHeader (header : Header) (bytes : List ℕ) : Type 0 where
+  pub valid : IsSetUp header.config
+  pub rest : List ℕ
+  pub text : bytes ≡ line_of (header_text header) ++ rest
+
+-- the bytes are few enough, and the text of this header and these events
+pub record IsScript {Value Op : Type 0} (m : Meaning Value Op) (header : Header) (events : List (Event Op)) (bytes : List ℕ) : Type 0 where
+  pub valid : IsSetUp header.config
+  pub fit : All (Fits m header.config) events
+  pub short : length bytes ≤ 8388608
+  pub text : bytes ≡ script_text m header events
+
+-- the bytes are no header's and no events' text
+abbrev pub IsNoScript : {Value Op : Type 0} → Meaning Value Op → List ℕ → Type 0
+IsNoScript {Value} {Op} m bytes = (header : Header) (events : List (Event Op)) → ¬ (IsScript m header events bytes)

@@ -1,0 +1,29 @@
+-- The one text of each thing that scripts speak of.
+use Rattle.std.specs.Prelude.{ℕ, List, ◌++◌, codes}
+use Rattle.std.specs.Fmt.{decimal}
+use Rattle.lr_base.specs.Meaning.{Meaning}
+use Rattle.lr_base.specs.declared.events.Event.{Event}
+use Rattle.lr_base.specs.declared.events.Event.TheVariants.{Call, Deliver, Gossip, Show}
+use Rattle.lr_base.specs.declared.names.Config.{Config}
+use Rattle.lr_script.specs.declared.heading.Header.{Header}
+use Rattle.lr_script.specs.declared.heading.Name.{Name}
+use Rattle.lr_script.specs.declared.heading.Name.TheVariants.{Tally}
+
+-- a service's name
+abbrev pub service_text : Name → List ℕ
+service_text Tally = codes "tally"
+
+-- the counts of replicas and clients, and how long a message may be under way
+abbrev pub config_text : Config → List ℕ
+config_text config = decimal config.replicas ++ (codes " " ++ (decimal config.clients ++ (codes " " ++ decimal config.delta)))
+
+-- a script's first line: its service and what a run is set up with
+abbrev pub header_text : Header → List ℕ
+header_text header = codes "lazyrep 1 " ++ (service_text header.service ++ (codes " " ++ config_text header.config))
+
+-- an event's line: its word, then its fields with one space before each
+abbrev pub event_text : {Value Op : Type 0} → Meaning Value Op → Event Op → List ℕ
+event_text m (Call client replica reading op) = codes "call " ++ (decimal client ++ (codes " " ++ (decimal replica ++ (codes " " ++ (decimal reading ++ (codes " " ++ m.text op))))))
+event_text m (Deliver message) = codes "deliver " ++ decimal message
+event_text m (Gossip from to) = codes "gossip " ++ (decimal from ++ (codes " " ++ decimal to))
+event_text m (Show replica) = codes "show " ++ decimal replica

@@ -1,0 +1,234 @@
+//! The lines of events, read and printed.
+ghost use Rattle.std.specs.Prelude.{◌≡◌, ◌≢◌, ◌++◌, ◌<◌, codes, IfOk, IfErr, OnOk, IfSome, IsNone, string_bytes};
+ghost use Rattle.std.specs.Fmt.{decimal};
+ghost use Rattle.lr_base.specs.declared.names.Config.{Config};
+ghost use Rattle.lr_script.specs.Fields.{spaces, IsCallFields, IsPair};
+ghost use Rattle.lr_script.specs.Faults.{IsBecause, IsBadEvent, IsBadCall, IsBadDeliver, IsBadGossip, IsBadShow};
+ghost use Rattle.lr_script.specs.Script.{Fits};
+ghost use Rattle.lr_script.specs.Texts.{event_text};
+
+use crate::Cause;
+use crate::fields::{EventWord, is_one_field, split_field, word_of};
+use lr_base::lr_service::{OpFault, Service};
+use lr_base::{Config, Event, NoMemory, Text, read_number};
+use std::alloc::{AllocError, Global};
+
+// Why a line was not read as an event.
+#[derive(Drop)]
+pub enum EventFault {
+    Bad(Cause),
+    NoMemory,
+}
+
+// The fields of a call's line behind its word.
+struct CallFields<'a> {
+    client: &'a [u8],
+    replica: &'a [u8],
+    reading: &'a [u8],
+    op: &'a [u8],
+}
+
+// The event that a line is.
+pub fn read_event<S: Service>(
+    alloc: Global,
+    config: Config,
+    text: &[u8],
+) -> Result<Event<S::Op>, EventFault>
+    ensures fits { IfOk result (Fits S.meaning config) }
+    ensures text { IfOk result (λ event. text.now ≡ event_text S.meaning event) }
+    ensures err { IfErr result (IsBecause (IsBadEvent S.meaning config text.now)) }
+{
+    let (word, fields) = split_field(text);
+    let Some(word) = word_of(word) else {
+        return Err(EventFault::Bad(Cause::Event));
+    };
+    let Some(fields) = fields else {
+        return Err(EventFault::Bad(Cause::Fields));
+    };
+    match word {
+        EventWord::Call => read_call::<S>(alloc, config, fields),
+        EventWord::Deliver => read_deliver::<S>(fields),
+        EventWord::Gossip => read_gossip::<S>(config, fields),
+        EventWord::Show => read_show::<S>(config, fields),
+    }
+}
+
+fn call_fields(fields: &[u8]) -> Option<CallFields<'_>>
+    ensures some { IfSome result (λ it. IsCallFields fields.now it.client.now it.replica.now it.reading.now it.op.now) }
+    ensures none { IsNone result → spaces fields.now < 3 }
+{
+    let (client, fields) = split_field(fields);
+    let (replica, fields) = split_field(fields?);
+    let (reading, op) = split_field(fields?);
+    let op = op?;
+    Some(CallFields {
+        client,
+        replica,
+        reading,
+        op,
+    })
+}
+
+fn read_call<S: Service>(
+    alloc: Global,
+    config: Config,
+    fields: &[u8],
+) -> Result<Event<S::Op>, EventFault>
+    ensures fits { IfOk result (Fits S.meaning config) }
+    ensures text { IfOk result (λ event. codes "call " ++ fields.now ≡ event_text S.meaning event) }
+    ensures err { IfErr result (IsBecause (IsBadCall S.meaning config fields.now)) }
+{
+    let Some(fields) = call_fields(fields) else {
+        return Err(EventFault::Bad(Cause::Fields));
+    };
+    let CallFields {
+        client,
+        replica,
+        reading,
+        op,
+    } = fields;
+    let Some(client) = read_number(client) else {
+        return Err(EventFault::Bad(Cause::Number));
+    };
+    let Some(replica) = read_number(replica) else {
+        return Err(EventFault::Bad(Cause::Number));
+    };
+    let Some(reading) = read_number(reading) else {
+        return Err(EventFault::Bad(Cause::Number));
+    };
+    if config.clients as u64 <= client {
+        return Err(EventFault::Bad(Cause::Range));
+    }
+    if config.replicas as u64 <= replica {
+        return Err(EventFault::Bad(Cause::Range));
+    }
+    match S::read_op(alloc, op) {
+        Ok(op) => Ok(Event::Call {
+            client: client as u32,
+            replica: replica as u8,
+            reading,
+            op,
+        }),
+        Err(OpFault::NotAnOp) => Err(EventFault::Bad(Cause::Op)),
+        Err(OpFault::NoMemory) => Err(EventFault::NoMemory),
+    }
+}
+
+fn read_deliver<S: Service>(fields: &[u8]) -> Result<Event<S::Op>, EventFault>
+    ensures fits { (config : Config) → IfOk result (Fits S.meaning config) }
+    ensures text { IfOk result (λ event. codes "deliver " ++ fields.now ≡ event_text S.meaning event) }
+    ensures err { IfErr result (IsBecause (IsBadDeliver fields.now)) }
+{
+    if !is_one_field(fields) {
+        return Err(EventFault::Bad(Cause::Fields));
+    }
+    let Some(message) = read_number(fields) else {
+        return Err(EventFault::Bad(Cause::Number));
+    };
+    Ok(Event::Deliver { message })
+}
+
+// The two fields that these are, if they are two.
+fn pair_of(fields: &[u8]) -> Option<(&[u8], &[u8])>
+    ensures some { IfSome result (λ it. IsPair fields.now it.0.now it.1.now) }
+    ensures none { IsNone result → spaces fields.now ≢ 1 }
+{
+    let (first, rest) = split_field(fields);
+    let second = rest?;
+    if !is_one_field(second) {
+        return None;
+    }
+    Some((first, second))
+}
+
+fn read_gossip<S: Service>(config: Config, fields: &[u8]) -> Result<Event<S::Op>, EventFault>
+    ensures fits { IfOk result (Fits S.meaning config) }
+    ensures text { IfOk result (λ event. codes "gossip " ++ fields.now ≡ event_text S.meaning event) }
+    ensures err { IfErr result (IsBecause (IsBadGossip config fields.now)) }
+{
+    let Some((from, to)) = pair_of(fields) else {
+        return Err(EventFault::Bad(Cause::Fields));
+    };
+    let Some(from) = read_number(from) else {
+        return Err(EventFault::Bad(Cause::Number));
+    };
+    let Some(to) = read_number(to) else {
+        return Err(EventFault::Bad(Cause::Number));
+    };
+    if config.replicas as u64 <= from {
+        return Err(EventFault::Bad(Cause::Range));
+    }
+    if config.replicas as u64 <= to {
+        return Err(EventFault::Bad(Cause::Range));
+    }
+    if from == to {
+        return Err(EventFault::Bad(Cause::Range));
+    }
+    Ok(Event::Gossip {
+        from: from as u8,
+        to: to as u8,
+    })
+}
+
+fn read_show<S: Service>(config: Config, fields: &[u8]) -> Result<Event<S::Op>, EventFault>
+    ensures fits { IfOk result (Fits S.meaning config) }
+    ensures text { IfOk result (λ event. codes "show " ++ fields.now ≡ event_text S.meaning event) }
+    ensures err { IfErr result (IsBecause (IsBadShow config fields.now)) }
+{
+    if !is_one_field(fields) {
+        return Err(EventFault::Bad(Cause::Fields));
+    }
+    let Some(replica) = read_number(fields) else {
+        return Err(EventFault::Bad(Cause::Number));
+    };
+    if config.replicas as u64 <= replica {
+        return Err(EventFault::Bad(Cause::Range));
+    }
+    Ok(Event::Show {
+        replica: replica as u8,
+    })
+}
+
+/// Adds the event's line behind `out`, without its LF. Where there was no memory, a part of the line may be there.
+pub fn print_event<S: Service>(event: &Event<S::Op>, out: &mut Text) -> Result<(), NoMemory>
+    ensures { OnOk result (out.new ≡ out.old ++ event_text S.meaning event.now) }
+{
+    match event {
+        Event::Call {
+            client,
+            replica,
+            reading,
+            op,
+        } => {
+            let client = *client;
+            let replica = *replica;
+            let reading = *reading;
+            let head = call_head(out.allocator(), client, replica, reading)?;
+            out.extend(head.as_bytes())?;
+            S::print_op(op, out)
+        }
+        Event::Deliver { message } => {
+            let message = *message;
+            let line = format!(in out.allocator(); "deliver {message}")?;
+            out.extend(line.as_bytes())
+        }
+        Event::Gossip { from, to } => {
+            let from = *from;
+            let to = *to;
+            let line = format!(in out.allocator(); "gossip {from} {to}")?;
+            out.extend(line.as_bytes())
+        }
+        Event::Show { replica } => {
+            let replica = *replica;
+            let line = format!(in out.allocator(); "show {replica}")?;
+            out.extend(line.as_bytes())
+        }
+    }
+}
+
+// A call's line up to its operation.
+fn call_head(alloc: Global, client: u32, replica: u8, reading: u64) -> Result<String, AllocError>
+    ensures { IfOk result (λ text. string_bytes text ≡ codes "call " ++ (decimal client ++ (codes " " ++ (decimal replica ++ (codes " " ++ (decimal reading ++ codes " ")))))) }
+{
+    format!(in alloc; "call {client} {replica} {reading} ")
+}

@@ -1,0 +1,18 @@
+//! Scripts: which bytes mean a header and events, and why others don't.
+#![tactic(auto)]
+
+mod event_lines;
+mod fields;
+mod heading;
+mod laws;
+mod lines;
+mod reading;
+mod refusals;
+#[cfg(test)]
+mod tests;
+
+pub use event_lines::print_event;
+pub use heading::{Header, Name};
+pub use laws::what_is_refused_means_nothing;
+pub use reading::{read_header, read_script};
+pub use refusals::{Cause, ScriptFault};

@@ -1,0 +1,125 @@
+//! The whole script, read from its bytes.
+ghost use Rattle.std.specs.Prelude.{◌≡◌, ◌+◌, ◌<◌, ◌≤◌, ◌++◌, ◌↔◌, length, IfOk, IfErr};
+ghost use Rattle.std.specs.List.{All};
+ghost use Rattle.lr_script.specs.declared.heading.Header.{Header};
+ghost use Rattle.lr_script.specs.Faults.{IsFaultAt, IsBadLine, IsHeadFault, IsLineFault, IsRefused, IsScriptFault};
+ghost use Rattle.lr_script.specs.Script.{Fits, IsSetUp, IsScript, HasHeader, line_of, events_text};
+ghost use Rattle.lr_script.specs.Texts.{event_text, header_text};
+
+use crate::event_lines::{EventFault, read_event};
+use crate::heading::header_of;
+use crate::lines::first_line;
+use crate::{Cause, Header, ScriptFault};
+use lr_base::lr_service::Service;
+use lr_base::{Config, Event, Rows};
+use std::alloc::Global;
+
+// The most bytes that a script has.
+const MOST_BYTES: usize = 8_388_608;
+
+/// The header that the bytes begin with. Nothing is asked of the lines behind it.
+pub fn read_header(bytes: &[u8]) -> Result<Header, ScriptFault>
+    ensures ok { IfOk result (λ header. HasHeader header bytes.now) }
+    ensures long { (result ≡ Err (ScriptFault.Line 0 Cause.TooLong)) ↔ (8388608 < length bytes.now) }
+    ensures err { IfErr result (IsHeadFault bytes.now) }
+{
+    let (header, _lines) = split_header(bytes)?;
+    Ok(header)
+}
+
+/// The events of a script, in the order of their lines.
+pub fn read_script<S: Service>(
+    alloc: Global,
+    bytes: &[u8],
+) -> Result<Rows<Event<S::Op>>, ScriptFault>
+    ensures ok { IfOk result (λ events. (header : Header) × IsScript S.meaning header events bytes.now) }
+    ensures long { (result ≡ Err (ScriptFault.Line 0 Cause.TooLong)) ↔ (8388608 < length bytes.now) }
+    ensures same { (header : Header) → HasHeader header bytes.now → IfOk result (λ events. IsScript S.meaning header events bytes.now) }
+    ensures err { IfErr result (IsScriptFault S.meaning bytes.now) }
+    ensures refused { IfErr result (IsRefused S.meaning bytes.now) }
+{
+    match split_header(bytes) {
+        Ok((header, lines)) => read_events::<S>(alloc, header.config, lines),
+        Err(fault) => Err(fault),
+    }
+}
+
+// The header, and the lines behind it.
+fn split_header(bytes: &[u8]) -> Result<(Header, &[u8]), ScriptFault>
+    ensures valid { IfOk result (λ parts. IsSetUp parts.0.config) }
+    ensures text { IfOk result (λ parts. bytes.now ≡ line_of (header_text parts.0) ++ parts.1.now) }
+    ensures short { IfOk result (λ parts. length bytes.now ≤ 8388608) }
+    ensures long { (result ≡ Err (ScriptFault.Line 0 Cause.TooLong)) ↔ (8388608 < length bytes.now) }
+    ensures err { IfErr result (IsHeadFault bytes.now) }
+{
+    if MOST_BYTES < bytes.len() {
+        return Err(ScriptFault::Line {
+            line: 0,
+            cause: Cause::TooLong,
+        });
+    }
+    if bytes.is_empty() {
+        return Err(ScriptFault::Line {
+            line: 1,
+            cause: Cause::Header,
+        });
+    }
+    match first_line(bytes) {
+        Ok((text, lines)) => match header_of(text) {
+            Some(header) => Ok((header, lines)),
+            None => Err(ScriptFault::Line {
+                line: 1,
+                cause: Cause::Header,
+            }),
+        },
+        Err(cause) => Err(ScriptFault::Line { line: 1, cause }),
+    }
+}
+
+// The events of the lines, of which the first is line 2.
+fn read_events<S: Service>(
+    alloc: Global,
+    config: Config,
+    lines: &[u8],
+) -> Result<Rows<Event<S::Op>>, ScriptFault>
+    requires { length lines.now ≤ 8388608 }
+    ensures fit { IfOk result (All (Fits S.meaning config)) }
+    ensures text { IfOk result (λ events. lines.now ≡ events_text S.meaning events) }
+    ensures err { IfErr result (IsLineFault S.meaning config lines.now) }
+{
+    let mut events = Rows::new(alloc);
+    let mut rest = lines;
+    let mut line = 1;
+    while !rest.is_empty() {
+        line += 1;
+        let (event, later) = next_event::<S>(alloc, config, line, rest)?;
+        let Ok(()) = events.push(event) else {
+            return Err(ScriptFault::NoMemory);
+        };
+        rest = later;
+    }
+    Ok(events)
+}
+
+// The event of the first line, and the lines behind it.
+fn next_event<S: Service>(
+    alloc: Global,
+    config: Config,
+    line: u64,
+    lines: &[u8],
+) -> Result<(Event<S::Op>, &[u8]), ScriptFault>
+    ensures fits { IfOk result (λ next. Fits S.meaning config next.0) }
+    ensures text { IfOk result (λ next. lines.now ≡ line_of (event_text S.meaning next.0) ++ next.1.now) }
+    ensures err { IfErr result (IsFaultAt line (IsBadLine S.meaning config lines.now)) }
+{
+    match first_line(lines) {
+        Ok((text, later)) => match read_event::<S>(alloc, config, text) {
+            Ok(event) => Ok((event, later)),
+            Err(fault) => match fault {
+                EventFault::Bad(cause) => Err(ScriptFault::Line { line, cause }),
+                EventFault::NoMemory => Err(ScriptFault::NoMemory),
+            },
+        },
+        Err(cause) => Err(ScriptFault::Line { line, cause }),
+    }
+}

@@ -1,0 +1,16 @@
+use Rattle.std.proofs.Common.{ap}
+use Rattle.lr_causal.specs.State.{config_of, state_of}
+use Rattle.lr_world.proofs.Answering.{AllAsked-along}
+use Rattle.lr_world.proofs.replica.Replica.accept.Goals as goal
+
+pub invariant_of-self : goal.invariant_of-self
+invariant_of-self g c =
+    let it = c.self.inside.causal in
+    let next = c.accept.new.self in
+    AllAsked-along g.S.Op.Operation.kind_of (config_of it) (config_of next) (state_of it).held (state_of next).held c.accept.ensures.config (ap (λ s. s.held) c.in_err-spot.ensures.err) c.self.invariant
+
+pub invariant_of-self-2 : goal.invariant_of-self-2
+invariant_of-self-2 g c =
+    let it = c.self.inside.causal in
+    let next = c.accept.new.self in
+    AllAsked-along g.S.Op.Operation.kind_of (config_of it) (config_of next) (state_of it).held (state_of next).held c.accept.ensures.config (ap (λ s. s.held) c.in_ok-spot.ensures.ok) c.self.invariant
