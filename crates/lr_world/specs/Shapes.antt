@@ -1,6 +1,6 @@
 -- What every message and every act of a run keeps.
 use Rattle.std.specs.Prelude.{◌≡◌, ◌+◌, ◌<◌, ◌≢◌, ℕ, Bool, true, not, List, [], ◌∷◌, length, nat_lt}
-use Rattle.lr_base.specs.Kinds.{is_query}
+use Rattle.lr_base.specs.Kinds.{IsPlain, is_query}
 use Rattle.lr_base.specs.declared.lr_service.Kind.{Kind}
 use Rattle.lr_base.specs.declared.names.Actor.{Actor}
 use Rattle.lr_base.specs.declared.names.Actor.TheVariants.{Client, Replica}
@@ -10,6 +10,7 @@ use Rattle.lr_base.specs.declared.acts.Act.TheVariants.{Say, Send}
 use Rattle.lr_base.specs.declared.events.Event.{Event}
 use Rattle.lr_base.specs.declared.events.Event.TheVariants.{Call, Deliver, Gossip as GossipEvent, Show}
 use Rattle.lr_base.specs.Logged.{AllLogged}
+use Rattle.lr_base.specs.Meaning.{Meaning}
 use Rattle.lr_base.specs.declared.messages.LogUpdate.{LogUpdate}
 use Rattle.lr_base.specs.declared.messages.Message.{Message}
 use Rattle.lr_base.specs.declared.messages.Message.TheVariants.{Update, Query, Done, Answer, Gossip}
@@ -79,3 +80,10 @@ IsInRange config (Call client replica reading op) = (client < config.clients) ×
 IsInRange config (Deliver message) = Unit {0}
 IsInRange config (GossipEvent from to) = (from < config.replicas) × (to < config.replicas) × (from ≢ to)
 IsInRange config (Show replica) = replica < config.replicas
+
+-- an event calls no operation that needs an order of its own
+abbrev pub CallsPlain : {Value Op : Type 0} → Meaning Value Op → Event Op → Type 0
+CallsPlain m (Call client replica reading op) = IsPlain (m.kind op)
+CallsPlain m (Deliver message) = Unit {0}
+CallsPlain m (GossipEvent from to) = Unit {0}
+CallsPlain m (Show replica) = Unit {0}

@@ -66,6 +66,19 @@ impl Front {
         }
     }
 
+    /// A front end equal to this one. It takes no memory.
+    pub fn copy(&self) -> Self
+        ensures { result ≡ self.now }
+    {
+        Front {
+            client: self.client,
+            clock: self.clock,
+            label: self.label.copy(),
+            calls: self.calls,
+            open_call: self.open_call,
+        }
+    }
+
     /// Makes a call at a clock reading, which counts also where the call is refused.
     pub fn call<O: Operation>(
         &mut self,

@@ -7,7 +7,7 @@ use lr_base::{
     Act, Actor, Call, Cid, Config, Fresh, Message, NoMemory, Outcome, Refusal, Rows, Spot, Stamp,
     StateLine, Text,
 };
-use lr_causal::Causal;
+use lr_causal::{Causal, Savepoint};
 use std::alloc::Global;
 use std::marker::Model;
 
@@ -36,7 +36,7 @@ impl<S: Service> Model for Replica<S> {
 }
 
 impl<S: Service> Replica<S> {
-    ghost use Rattle.std.specs.Prelude.{◌≡◌, ◌+◌, ℕ, true, ◌<◌, ◌++◌, length, map, nat_lt, IfOk, OnOk};
+    ghost use Rattle.std.specs.Prelude.{◌≡◌, ◌+◌, ℕ, true, ◌<◌, ◌++◌, length, map, nat_lt, IfOk, OnOk, OnErr};
     ghost use Rattle.lr_base.specs.Config.{IsValid};
     ghost use Rattle.lr_base.specs.Kinds.{IsUpdate};
     ghost use Rattle.lr_base.specs.Stamps.{stamp_le};
@@ -45,7 +45,10 @@ impl<S: Service> Replica<S> {
     ghost use Rattle.lr_world.specs.Shapes.{AllFitting, IsShaped, is_actor};
     ghost use Rattle.lr_base.specs.Rules.{fresh_of};
     ghost use Rattle.lr_base.specs.Replicas.{first_replica, state_line_of};
+    ghost use Rattle.lr_base.specs.Rules.{CausalState, applied};
     ghost use Rattle.lr_base.specs.Steps.{call_taken, ended, has_number, has_room, gossiped, held_acts, own_taken, query_held, query_taken, taken, update_taken};
+    ghost use Rattle.lr_causal.specs.Savepoint.{IsPointOf, Saved};
+    ghost use Rattle.lr_world.specs.Finished.{finished};
 
     /// A replica at which nothing has happened.
     pub fn new(alloc: Global, config: Config, me: u8) -> Result<Self, NoMemory>
@@ -57,18 +60,109 @@ impl<S: Service> Replica<S> {
         Ok(Replica { causal })
     }
 
-    /// Takes a message that was sent to it.
-    pub fn take(&mut self, from: Actor, message: &Message<S::Op>) -> Result<Acts<S::Op>, NoMemory>
+    /// Which replica it is.
+    pub fn me(&self) -> u8
+        ensures { result ≡ self.now.me }
+    {
+        self.causal.me()
+    }
+
+    /// Takes a message that was sent to it, up to what can't fail. Then `finish` ends the step, or `undo` takes it back.
+    pub fn take(
+        &mut self,
+        from: Actor,
+        message: &Message<S::Op>,
+    ) -> Result<(Acts<S::Op>, Savepoint<S>), NoMemory>
         requires shaped { IsShaped S.Op.kind_of self.old.config message.now }
         requires from { is_actor self.old.config from ≡ true }
-        ensures acts { IfOk result (λ acts. AllFitting S.Op.kind_of self.old.config acts.items) }
+        ensures fitting { IfOk result (λ step. AllFitting S.Op.kind_of self.old.config step.0.items) }
+        ensures setting { self.new.config ≡ self.old.config }
+        ensures number { self.new.me ≡ self.old.me }
+        ensures did { IfOk result (λ step. step.0.items ≡ (taken S.meaning self.old.config self.old.me self.old.causal from message.now).acts) }
+        ensures state { OnOk result (finished self.old.config.replicas self.new.causal ≡ (taken S.meaning self.old.config self.old.me self.old.causal from message.now).state) }
+        ensures point { IfOk result (λ step. IsPointOf step.1 self.new.causal self.old.causal) }
+        ensures err { OnErr result (self.new.causal ≡ self.old.causal) }
+    {
+        let mut point = self.causal.save()?;
+        let Ok(acts) = self.take_all(from, message, &mut point) else {
+            self.causal.restore(point);
+            return Err(NoMemory);
+        };
+        Ok((acts, point))
+    }
+
+    /// Sends gossip to another replica, up to what can't fail. Then `finish` ends the step, or `undo` takes it back.
+    pub fn send_gossip(&mut self, to: u8) -> Result<(Acts<S::Op>, Savepoint<S>), NoMemory>
+        requires { to < self.old.config.replicas }
+        ensures fitting { IfOk result (λ step. AllFitting S.Op.kind_of self.old.config step.0.items) }
+        ensures setting { self.new.config ≡ self.old.config }
+        ensures number { self.new.me ≡ self.old.me }
+        ensures did { IfOk result (λ step. step.0.items ≡ (gossiped S.meaning self.old.config.replicas to self.old.causal).acts) }
+        ensures state { OnOk result (finished self.old.config.replicas self.new.causal ≡ (gossiped S.meaning self.old.config.replicas to self.old.causal).state) }
+        ensures point { IfOk result (λ step. IsPointOf step.1 self.new.causal self.old.causal) }
+        ensures err { OnErr result (self.new.causal ≡ self.old.causal) }
+    {
+        let mut point = self.causal.save()?;
+        let Ok(acts) = self.tell(to, &mut point) else {
+            self.causal.restore(point);
+            return Err(NoMemory);
+        };
+        Ok((acts, point))
+    }
+
+    /// Ends a step: answered queries are held no more, and what is known everywhere leaves. It takes no memory.
+    pub fn finish(&mut self)
+        ensures { self.new ≡ record self.old { causal = finished self.old.config.replicas self.old.causal } }
+    {
+        self.causal.drop_answered();
+        self.causal.prune();
+    }
+
+    /// Takes a step back that isn't finished. It takes no memory.
+    pub fn undo(&mut self, point: Savepoint<S>)
+        requires { (before : CausalState S S.Op) × IsPointOf point self.old.causal before }
+        ensures setting { self.new.config ≡ self.old.config }
+        ensures number { self.new.me ≡ self.old.me }
+        ensures state { (before : CausalState S S.Op) → IsPointOf point self.old.causal before → self.new.causal ≡ before }
+    {
+        self.causal.restore(point);
+    }
+
+    // All that a message does, but for what can't fail.
+    fn take_all(
+        &mut self,
+        from: Actor,
+        message: &Message<S::Op>,
+        point: &mut Savepoint<S>,
+    ) -> Result<Acts<S::Op>, NoMemory>
+        requires shaped { IsShaped S.Op.kind_of self.old.config message.now }
+        requires from { is_actor self.old.config from ≡ true }
+        ensures fitting { IfOk result (λ acts. AllFitting S.Op.kind_of self.old.config acts.items) }
         ensures setting { self.new.config ≡ self.old.config }
         ensures number { self.new.me ≡ self.old.me }
         ensures did { IfOk result (λ acts. acts.items ≡ (taken S.meaning self.old.config self.old.me self.old.causal from message.now).acts) }
-        ensures state { OnOk result (self.new.causal ≡ (taken S.meaning self.old.config self.old.me self.old.causal from message.now).state) }
+        ensures state { OnOk result (finished self.old.config.replicas self.new.causal ≡ (taken S.meaning self.old.config self.old.me self.old.causal from message.now).state) }
+        ensures point { (before : CausalState S S.Op) → IsPointOf point.old self.old.causal before → IsPointOf point.new self.new.causal before }
     {
         let mut acts = self.take_own(from, message)?;
-        self.end_step(&mut acts)?;
+        self.answer_ready(&mut acts, point)?;
+        Ok(acts)
+    }
+
+    // All that sending gossip does, but for what can't fail.
+    fn tell(&mut self, to: u8, point: &mut Savepoint<S>) -> Result<Acts<S::Op>, NoMemory>
+        requires { to < self.old.config.replicas }
+        ensures fitting { IfOk result (λ acts. AllFitting S.Op.kind_of self.old.config acts.items) }
+        ensures setting { self.new.config ≡ self.old.config }
+        ensures number { self.new.me ≡ self.old.me }
+        ensures did { IfOk result (λ acts. acts.items ≡ (gossiped S.meaning self.old.config.replicas to self.old.causal).acts) }
+        ensures state { OnOk result (finished self.old.config.replicas self.new.causal ≡ (gossiped S.meaning self.old.config.replicas to self.old.causal).state) }
+        ensures point { (before : CausalState S S.Op) → IsPointOf point.old self.old.causal before → IsPointOf point.new self.new.causal before }
+    {
+        let gossip = self.causal.make_gossip()?;
+        let mut acts = no_act(self.allocator());
+        send(&mut acts, Actor::Replica(to), Message::Gossip { gossip })?;
+        self.answer_ready(&mut acts, point)?;
         Ok(acts)
     }
 
@@ -85,6 +179,7 @@ impl<S: Service> Replica<S> {
         ensures number { self.new.me ≡ self.old.me }
         ensures did { IfOk result (λ acts. acts.items ≡ (own_taken S.meaning self.old.config self.old.me self.old.causal from message.now).acts) }
         ensures state { OnOk result (self.new.causal ≡ (own_taken S.meaning self.old.config self.old.me self.old.causal from message.now).state) }
+        ensures point { (p : Saved S) (before : CausalState S S.Op) → IsPointOf p self.old.causal before → IsPointOf p self.new.causal before }
     {
         match from {
             Actor::Client(_client) => self.take_call(message),
@@ -100,6 +195,7 @@ impl<S: Service> Replica<S> {
         ensures number { self.new.me ≡ self.old.me }
         ensures did { (client : ℕ) → IfOk result (λ acts. acts.items ≡ (own_taken S.meaning self.old.config self.old.me self.old.causal (Actor.Client client) message.now).acts) }
         ensures state { (client : ℕ) → OnOk result (self.new.causal ≡ (own_taken S.meaning self.old.config self.old.me self.old.causal (Actor.Client client) message.now).state) }
+        ensures point { (p : Saved S) (before : CausalState S S.Op) → IsPointOf p self.old.causal before → IsPointOf p self.new.causal before }
     {
         match message {
             Message::Update { call, time } => self.take_update(call, *time),
@@ -117,6 +213,7 @@ impl<S: Service> Replica<S> {
         ensures number { self.new.me ≡ self.old.me }
         ensures did { IfOk result (λ acts. acts.items ≡ (own_taken S.meaning self.old.config self.old.me self.old.causal (Actor.Replica from) message.now).acts) }
         ensures state { OnOk result (self.new.causal ≡ (own_taken S.meaning self.old.config self.old.me self.old.causal (Actor.Replica from) message.now).state) }
+        ensures point { (p : Saved S) (before : CausalState S S.Op) → IsPointOf p self.old.causal before → IsPointOf p self.new.causal before }
     {
         let Message::Gossip { gossip } = message else {
             return Ok(no_act(self.allocator()));
@@ -126,22 +223,6 @@ impl<S: Service> Replica<S> {
         }
         let count = self.causal.take_gossip(from, gossip)?;
         say(self.allocator(), Outcome::Take { count })
-    }
-
-    /// Sends gossip to another replica.
-    pub fn send_gossip(&mut self, to: u8) -> Result<Acts<S::Op>, NoMemory>
-        requires { to < self.old.config.replicas }
-        ensures acts { IfOk result (λ acts. AllFitting S.Op.kind_of self.old.config acts.items) }
-        ensures setting { self.new.config ≡ self.old.config }
-        ensures number { self.new.me ≡ self.old.me }
-        ensures did { IfOk result (λ acts. acts.items ≡ (gossiped S.meaning self.old.config.replicas to self.old.causal).acts) }
-        ensures state { OnOk result (self.new.causal ≡ (gossiped S.meaning self.old.config.replicas to self.old.causal).state) }
-    {
-        let gossip = self.causal.make_gossip()?;
-        let mut acts = no_act(self.allocator());
-        send(&mut acts, Actor::Replica(to), Message::Gossip { gossip })?;
-        self.end_step(&mut acts)?;
-        Ok(acts)
     }
 
     // The first checks of an update.
@@ -154,6 +235,7 @@ impl<S: Service> Replica<S> {
         ensures number { self.new.me ≡ self.old.me }
         ensures did { IfOk result (λ acts. acts.items ≡ (update_taken self.old.me self.old.causal call.now (fresh_of self.old.config.delta self.old.causal call.now.cid time)).acts) }
         ensures state { OnOk result (self.new.causal ≡ (update_taken self.old.me self.old.causal call.now (fresh_of self.old.config.delta self.old.causal call.now.cid time)).state) }
+        ensures point { (p : Saved S) (before : CausalState S S.Op) → IsPointOf p self.old.causal before → IsPointOf p self.new.causal before }
     {
         match self.causal.fresh(call.cid, time) {
             Fresh::Late { time, clock } => refused(self.allocator(), Refusal::Late { time, clock }),
@@ -177,6 +259,7 @@ impl<S: Service> Replica<S> {
         ensures number { self.new.me ≡ self.old.me }
         ensures did { IfOk result (λ acts. acts.items ≡ (call_taken self.old.me self.old.causal call.now (has_room self.old.causal) (has_number self.old.me self.old.causal)).acts) }
         ensures state { OnOk result (self.new.causal ≡ (call_taken self.old.me self.old.causal call.now (has_room self.old.causal) (has_number self.old.me self.old.causal)).state) }
+        ensures point { (p : Saved S) (before : CausalState S S.Op) → IsPointOf p self.old.causal before → IsPointOf p self.new.causal before }
     {
         if !self.causal.log().has_room() {
             return refused(self.allocator(), Refusal::FullLog);
@@ -198,6 +281,7 @@ impl<S: Service> Replica<S> {
         ensures number { self.new.me ≡ self.old.me }
         ensures did { IfOk result (λ acts. acts.items ≡ (query_taken S.meaning self.old.causal call.now (stamp_le call.now.prev self.old.causal.val_ts)).acts) }
         ensures state { OnOk result (self.new.causal ≡ (query_taken S.meaning self.old.causal call.now (stamp_le call.now.prev self.old.causal.val_ts)).state) }
+        ensures point { (p : Saved S) (before : CausalState S S.Op) → IsPointOf p self.old.causal before → IsPointOf p self.new.causal before }
     {
         match self.causal.read(&call.prev, &call.op)? {
             Some(text) => {
@@ -216,6 +300,7 @@ impl<S: Service> Replica<S> {
         ensures number { self.new.me ≡ self.old.me }
         ensures did { IfOk result (λ acts. acts.items ≡ (query_held self.old.causal call.now (nat_lt (length self.old.causal.held) 1024)).acts) }
         ensures state { OnOk result (self.new.causal ≡ (query_held self.old.causal call.now (nat_lt (length self.old.causal.held) 1024)).state) }
+        ensures point { (p : Saved S) (before : CausalState S S.Op) → IsPointOf p self.old.causal before → IsPointOf p self.new.causal before }
     {
         if self.causal.held().len() >= HELD_ROOM {
             return refused(self.allocator(), Refusal::FullHeld);
@@ -224,19 +309,18 @@ impl<S: Service> Replica<S> {
         say(self.allocator(), Outcome::Hold { cid: call.cid })
     }
 
-    // Ends a step: what is ready is applied, and then held queries are answered, behind what the step did.
-    fn end_step(&mut self, acts: &mut Acts<S::Op>) -> Result<(), NoMemory>
+    // What is ready is applied, and then held queries are answered, behind what the step did.
+    fn answer_ready(&mut self, acts: &mut Acts<S::Op>, point: &mut Savepoint<S>) -> Result<(), NoMemory>
         requires { AllFitting S.Op.kind_of self.old.config acts.old.items }
-        ensures acts { OnOk result (AllFitting S.Op.kind_of self.old.config acts.new.items) }
+        ensures fitting { OnOk result (AllFitting S.Op.kind_of self.old.config acts.new.items) }
         ensures setting { self.new.config ≡ self.old.config }
         ensures number { self.new.me ≡ self.old.me }
         ensures did { OnOk result (acts.new.items ≡ (ended S.meaning self.old.config.replicas self.old.causal acts.old.items).acts) }
-        ensures state { OnOk result (self.new.causal ≡ (ended S.meaning self.old.config.replicas self.old.causal acts.old.items).state) }
+        ensures state { OnOk result (finished self.old.config.replicas self.new.causal ≡ (ended S.meaning self.old.config.replicas self.old.causal acts.old.items).state) }
+        ensures point { (before : CausalState S S.Op) → IsPointOf point.old self.old.causal before → IsPointOf point.new self.new.causal before }
     {
-        self.causal.settle()?;
-        self.answer_held(acts)?;
-        self.causal.drop_answered();
-        Ok(())
+        self.causal.apply(point)?;
+        self.answer_held(acts)
     }
 
     // Each held query whose label is now applied is answered.
