@@ -9,7 +9,7 @@ use Rattle.lr_base.specs.declared.messages.LogUpdate.{LogUpdate}
 use Rattle.lr_base.specs.declared.names.Cid.{Cid}
 use Rattle.lr_base.specs.declared.names.Config.{Config}
 use Rattle.lr_base.specs.declared.names.Spot.{Spot}
-use Rattle.lr_graph.specs.Closed.{Each, IsAmong, IsClosed, IsMade, IsSetOf, IsSound, IsWithin, causes}
+use Rattle.lr_graph.specs.Closed.{Each, IsAmong, IsClosed, IsAccepted, IsSetOf, IsSound, IsWithin, causes}
 use Rattle.lr_graph.specs.Graph.{Acceptance, Kept, LabelledCall, is_within, ready}
 use Rattle.lr_graph.specs.Names.{IsCounted, Names, spot_at}
 use Rattle.lr_graph.specs.Sets.{SpotSet, only, same_spot, ◌∪◌}
@@ -63,7 +63,7 @@ module _ {Value Op : Type 0} (m : Meaning Value Op) (config : Config) (l : List 
 
 -- ---- the new acceptance
 
-module _ {Op : Type 0} (l : List (Acceptance Op)) (sound : IsSound l) (spot : Spot) (fresh : IsMade l spot → ⊥) (some : 0 < spot.number) (cid : Cid) (op : Op) (x : SpotSet) (set : IsSetOf l x) where
+module _ {Op : Type 0} (l : List (Acceptance Op)) (sound : IsSound l) (spot : Spot) (fresh : IsAccepted l spot → ⊥) (some : 0 < spot.number) (cid : Cid) (op : Op) (x : SpotSet) (set : IsSetOf l x) where
   abbrev pub made_at : Acceptance Op
   made_at = record { spot = spot; cid = cid; op = op; below = x ∪ only spot }
 
@@ -102,12 +102,12 @@ module _ {Op : Type 0} (l : List (Acceptance Op)) (sound : IsSound l) (spot : Sp
 -- ---- what is received with it
 
 module _ {Value Op : Type 0} (m : Meaning Value Op) (config : Config) (l : List (Acceptance Op)) (sound : IsSound l) (r g : SpotSet) (kept : List Kept) (held : List (LabelledCall Op)) (state : CausalState Value Op) (ok : IsReplicaAt m config l r g kept held state)
-    (i : ℕ) (own : (b : Acceptance Op) → IsAmong b l → b.spot.place ≡ i → r b.spot ≡ true) (exist : (s : Spot) → r s ≡ true → IsMade l s) where
+    (i : ℕ) (own : (b : Acceptance Op) → IsAmong b l → b.spot.place ≡ i → r b.spot ≡ true) (exist : (s : Spot) → r s ≡ true → IsAccepted l s) where
   abbrev pub next : Spot
   next = spot_at i (part state.rep_ts i + 1)
 
   -- no acceptance has the next spot
-  pub next-fresh : IsMade l next → ⊥
+  pub next-fresh : IsAccepted l next → ⊥
   next-fresh made =
       let here : r made.0.spot ≡ true = own made.0 made.1 (ap (λ (s : Spot). s.place) made.2) in
       let most = counted-most r state.rep_ts ok.counted next (ap r (sym made.2) ∙ here) in

@@ -8,7 +8,7 @@ use Rattle.lr_graph.specs.Graph.{Acceptance, is_within, ready}
 use Rattle.lr_graph.specs.Names.{IsCounted, Names, spot_at}
 use Rattle.lr_graph.specs.Sets.{SpotSet}
 use Rattle.lr_graph.proofs.Members.{each-at, each-from}
-use Rattle.lr_graph.proofs.ReadySets.{below-made, holds-within, ready-greatest, ready-received, within-holds}
+use Rattle.lr_graph.proofs.ReadySets.{below-accepted, holds-within, ready-greatest, ready-received, within-holds}
 use Rattle.lr_graph.proofs.Tests.{and-intro, and-left, and-right, same-test}
 
 -- what a counted set has is from 1 up to the stamp's part
@@ -23,7 +23,7 @@ counted-has r rep counted s least most = counted s ∙ and-intro (nat_lt 0 s.num
 
 -- all that is below an acceptance is a set of acceptances
 pub below-set : {Op : Type 0} (l : List (Acceptance Op)) → IsSound l → (a : Acceptance Op) → IsAmong a l → IsSetOf l a.below
-below-set l sound a member = record { exist = below-made l sound a member; closed = each-at _ a l sound.closed member }
+below-set l sound a member = record { exist = below-accepted l sound a member; closed = each-at _ a l sound.closed member }
 
 module _ {Op : Type 0} (l : List (Acceptance Op)) (sound : IsSound l) (r : SpotSet) (rep : List ℕ) (counted : IsCounted r rep) (v : List ℕ) (ready_names : Names v (ready l r)) where
   -- the greatest ready spot of a place is received

@@ -33,7 +33,7 @@ use Rattle.lr_graph.specs.Graph.{Acceptance, AnswerReply, Carried, DoneReply, Fa
 use Rattle.lr_graph.specs.Legal.{call_lines, delivery_lines, logged, message_lines, next_number, outcomes_of, reply_line}
 use Rattle.lr_graph.specs.Runs.{IsEventOf, RunState, Stepped, act_lines, client_called, delivered as delivered_by_rules, front_after, front_called, front_given, front_lines, given, message_at, replica_ended, replica_given, replica_gossips, reply_lines, sent_of_message, shown, stepped, unchanged, with_front}
 use Rattle.lr_graph.specs.Sets.{SpotSet, put_at, ◌∪◌}
-use Rattle.lr_graph.specs.Closed.{IsAmong, IsMade, IsSetOf, IsWithin}
+use Rattle.lr_graph.specs.Closed.{IsAmong, IsAccepted, IsSetOf, IsWithin}
 use Rattle.lr_graph.specs.Names.{Names}
 use Rattle.lr_graph.proofs.FrontSteps.{front-changed, front-shared}
 use Rattle.lr_graph.proofs.GossipSteps.{own-sent}
@@ -53,7 +53,7 @@ set-both l x y f g = record {
   closed = each-from _ l (λ a member e. below a member (or-cases (x a.spot) _ e));
 }
   where
-    by_part : (s : _) → (x s ≡ true) ⊎ (y s ≡ true) → IsMade l s
+    by_part : (s : _) → (x s ≡ true) ⊎ (y s ≡ true) → IsAccepted l s
     by_part s (inl e) = f.exist s e
     by_part s (inr e) = g.exist s e
 

@@ -17,7 +17,7 @@ use Rattle.lr_base.specs.declared.names.Actor.TheVariants.{Replica}
 use Rattle.lr_base.specs.declared.names.Cid.{Cid}
 use Rattle.lr_base.specs.declared.names.Config.{Config}
 use Rattle.lr_base.specs.declared.names.Spot.{Spot}
-use Rattle.lr_graph.specs.Closed.{IsMade}
+use Rattle.lr_graph.specs.Closed.{IsAccepted}
 use Rattle.lr_graph.specs.Graph.{Carried, Facts, GossipOf, LabelledCall, SentMessage, ready, size_of}
 use Rattle.lr_graph.specs.Legal.{logged, next_number, take_line}
 use Rattle.lr_graph.specs.Runs.{RunState, message_at}
@@ -86,14 +86,14 @@ module _ {Value Op : Type 0} (m : Meaning Value Op) (config : Config) (issued : 
           (λ n. option-wider (find (λ y. y.number == n) w.messages) (message_at v.posted n) (shared.messages n));
     }
       where
-        exist_all : (j : ℕ) (s : Spot) → w1.received j s ≡ true → IsMade w.accepted s
+        exist_all : (j : ℕ) (s : Spot) → w1.received j s ≡ true → IsAccepted w.accepted s
         exist_all j s e = by_place (j == i) e
           where
-            by_place : (t : Bool) → cond t (w.received i ∪ names) (w.received j) s ≡ true → IsMade w.accepted s
+            by_place : (t : Bool) → cond t (w.received i ∪ names) (w.received j) s ≡ true → IsAccepted w.accepted s
             by_place false h = shared.exist j s h
             by_place true h = by_part (or-cases (w.received i s) _ h)
               where
-                by_part : (w.received i s ≡ true) ⊎ (names s ≡ true) → IsMade w.accepted s
+                by_part : (w.received i s ≡ true) ⊎ (names s ≡ true) → IsAccepted w.accepted s
                 by_part (inl k) = shared.exist i s k
                 by_part (inr k) = same.exist s k
 

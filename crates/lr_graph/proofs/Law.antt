@@ -1,4 +1,4 @@
--- A run by the rules is a legal history.
+-- What is made by the rules is a legal history.
 use Rattle.std.proofs.Common.{◌≡◌, ◌≢◌, ℕ, zero, suc, ◌+◌, ◌<◌, ◌⊎◌, inl, inr, nat_lt, List, [], ◌∷◌, ◌++◌, length, map, replicate, Option, Some, None, refl, sym, ap, ◌∙◌, subst, arith, true≢false, leb-true}
 use Rattle.std.specs.List.{slice_get}
 use Rattle.std.proofs.lemmas.List.{length-append}
@@ -14,11 +14,13 @@ use Rattle.lr_base.specs.declared.lr_service.Kind.{Kind}
 use Rattle.lr_base.specs.declared.messages.Known.{Known}
 use Rattle.lr_base.specs.declared.names.Config.{Config}
 use Rattle.lr_graph.specs.After.{after}
+use Rattle.lr_graph.specs.Central.{facts_after}
 use Rattle.lr_graph.specs.Closed.{Each, IsSetOf}
 use Rattle.lr_graph.specs.Graph.{Facts, first_facts}
 use Rattle.lr_graph.specs.Legal.{IsLegal, LegalFrom, logged}
 use Rattle.lr_graph.specs.Names.{IsCounted, Names}
-use Rattle.lr_graph.specs.Runs.{IsEventOf, RunState, first_fronts, first_replicas, first_run, history_of, message_at, steps_from, stepped}
+use Rattle.lr_graph.specs.Made.{IsMade, IsMadeFrom, made_step}
+use Rattle.lr_graph.specs.Runs.{IsEventOf, RunState, first_fronts, first_replicas, first_run, message_at, run_after, steps_from, stepped}
 use Rattle.lr_graph.specs.Sets.{nothing}
 use Rattle.lr_graph.proofs.Events.{same-step}
 use Rattle.lr_graph.proofs.Places.{slice-before, slice-behind}
@@ -139,17 +141,37 @@ module _ {Value Op : Type 0} (m : Meaning Value Op) (config : Config) where
 -- ---- the law
 
 module _ {Value Op : Type 0} (m : Meaning Value Op) (kind_of : Op → Kind) (lawful : Lawful m kind_of) (config : Config) where
-  legal-from : (events : List (Event Op)) (w : Facts Op) (v : RunState Value Op) → Each (IsEventOf m config) events → IsSame m config w v → LegalFrom m config w (steps_from m v events)
-  legal-from [] w v fit same = tt
-  legal-from (event ∷ events) w v fit same =
-      let step = same-step m kind_of lawful config w v same event fit.0 in (
-        step.lines,
-        legal-from events (after w (record { event = event; outcomes = (stepped m v event).outcomes })) (stepped m v event).run fit.1
-            (subst (λ (lines : List Outcome). IsSame m config (after w (record { event = event; outcomes = lines })) (stepped m v event).run) (sym step.lines) step.same),
-      )
+  -- what is made from a run is legal after the facts that belong to it, and the facts and the run after it belong together
+  made-same : (steps : List (Step Op)) (w : Facts Op) (v run : RunState Value Op) → IsMadeFrom m config v steps run → IsSame m config w v → LegalFrom m config w steps × IsSame m config (facts_after w steps) run
+  made-same [] w v run made same = (tt, subst (IsSame m config w) made same)
+  made-same (step ∷ steps) w v run made same =
+      let one = same-step m kind_of lawful config w v same step.event made.0 in
+      let lines = made.1 ∙ one.lines in
+      let rest = made-same steps (after w step) (stepped m v step.event).run run made.2
+      (subst (λ (lines : List Outcome). IsSame m config (after w (record { event = step.event; outcomes = lines })) (stepped m v step.event).run) (sym lines) one.same) in
+      ((lines, rest.0), rest.1)
 
-  pub history-legal : (events : List (Event Op)) → Each (IsEventOf m config) events → IsLegal m config (history_of m config events)
-  history-legal events fit = legal-from events first_facts (first_run m config) fit (first-same m config)
+  -- what is made is legal
+  pub made-legal : (steps : List (Step Op)) (run : RunState Value Op) → IsMade m config steps run → IsLegal m config steps
+  made-legal steps run made = (made-same steps first_facts (first_run m config) run made (first-same m config)).0
+
+  -- the run after what is made and the facts of its history belong together
+  pub same-after : (steps : List (Step Op)) (run : RunState Value Op) → IsMade m config steps run → IsSame m config (facts_after first_facts steps) run
+  same-after steps run made = (made-same steps first_facts (first_run m config) run made (first-same m config)).1
+
+-- ---- what is made
+
+module _ {Value Op : Type 0} (m : Meaning Value Op) (config : Config) where
+  -- the steps that events make are made
+  pub steps-made : (events : List (Event Op)) (v : RunState Value Op) → Each (IsEventOf m config) events → IsMadeFrom m config v (steps_from m v events) (run_after m v events)
+  steps-made [] v fit = refl
+  steps-made (event ∷ events) v fit = (fit.0, refl, steps-made events (stepped m v event).run fit.1)
+
+  -- an event makes one step more
+  pub made-more : (steps : List (Step Op)) (v run : RunState Value Op) (event : Event Op) → IsMadeFrom m config v steps run → IsEventOf m config event → IsMadeFrom m config v (steps ++ made_step m run event ∷ []) (stepped m run event).run
+  made-more [] v run event made fits =
+      (fits, ap (λ (v : RunState Value Op). (stepped m v event).outcomes) (sym made), ap (λ (v : RunState Value Op). (stepped m v event).run) made)
+  made-more (step ∷ steps) v run event made fits = (made.0, made.1, made-more steps (stepped m v step.event).run run event made.2 fits)
 
 -- ---- which events a history has
 

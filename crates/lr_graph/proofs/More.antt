@@ -9,11 +9,11 @@ use Rattle.lr_base.specs.declared.messages.LogUpdate.{LogUpdate}
 use Rattle.lr_base.specs.declared.names.Cid.{Cid}
 use Rattle.lr_base.specs.declared.names.Config.{Config}
 use Rattle.lr_base.specs.declared.names.Spot.{Spot}
-use Rattle.lr_graph.specs.Closed.{Each, IsMade, IsSetOf, IsSound}
+use Rattle.lr_graph.specs.Closed.{Each, IsAccepted, IsSetOf, IsSound}
 use Rattle.lr_graph.specs.Graph.{Acceptance, Kept, LabelledCall, has_call, is_within, ready, value}
 use Rattle.lr_graph.specs.Sets.{SpotSet, same_spot}
 use Rattle.lr_graph.proofs.Members.{each-at, each-from, each-map}
-use Rattle.lr_graph.proofs.ReadySets.{below-made, ready-holds}
+use Rattle.lr_graph.proofs.ReadySets.{below-accepted, ready-holds}
 use Rattle.lr_graph.proofs.Relation.{IsReplicaAt, SameCall, SameHeld, SameList}
 use Rattle.lr_graph.proofs.Tests.{never}
 use Rattle.lr_graph.proofs.Ties.{HasApplied, IsLogOf, IsTableOf, StandsFor}
@@ -30,9 +30,9 @@ any-alike : {A : Type 0} (p q : A → Bool) (xs : List A) → Each (λ x. p x �
 any-alike p q [] h = refl
 any-alike p q (x ∷ xs) h = λ i. h.0 i || any-alike p q xs h.1 i
 
-module _ {Op : Type 0} (l : List (Acceptance Op)) (a : Acceptance Op) (fresh : IsMade l a.spot → ⊥) where
+module _ {Op : Type 0} (l : List (Acceptance Op)) (a : Acceptance Op) (fresh : IsAccepted l a.spot → ⊥) where
   -- what the set x has was made, so the new one isn't in it
-  pub not-in : (x : SpotSet) → ((s : Spot) → x s ≡ true → IsMade l s) → x a.spot ≡ false
+  pub not-in : (x : SpotSet) → ((s : Spot) → x s ≡ true → IsAccepted l s) → x a.spot ≡ false
   not-in x exist = never _ (λ e. fresh (exist a.spot e))
 
   pub set-more : IsSound l → (x : SpotSet) → IsSetOf l x → IsSetOf (a ∷ l) x
@@ -40,7 +40,7 @@ module _ {Op : Type 0} (l : List (Acceptance Op)) (a : Acceptance Op) (fresh : I
     exist = λ s e. (let b = set.exist s e in (b.0, inr b.1, b.2));
     closed = (
       (λ e. absurd (fresh (set.exist a.spot e))),
-      each-from _ l (λ b member e. ((λ below. absurd (fresh (below-made l sound b member a.spot below))), each-at _ b l set.closed member e)),
+      each-from _ l (λ b member e. ((λ below. absurd (fresh (below-accepted l sound b member a.spot below))), each-at _ b l set.closed member e)),
     );
   }
 
@@ -52,7 +52,7 @@ module _ {Op : Type 0} (l : List (Acceptance Op)) (a : Acceptance Op) (fresh : I
   pub ready-more : IsSound l → (r : SpotSet) → r a.spot ≡ false → (s : Spot) → ready (a ∷ l) r s ≡ ready l r s
   ready-more sound r out s =
       ap (λ t. t || list_any (λ b. same_spot s b.spot && (r b.spot && is_within (a ∷ l) b.below r)) l) (head (same_spot s a.spot))
-      ∙ any-alike _ _ l (each-from _ l (λ b member. ap (λ t. same_spot s b.spot && (r b.spot && t)) (within-more b.below r (not-in b.below (below-made l sound b member)))))
+      ∙ any-alike _ _ l (each-from _ l (λ b member. ap (λ t. same_spot s b.spot && (r b.spot && t)) (within-more b.below r (not-in b.below (below-accepted l sound b member)))))
     where
       head : (t : Bool) → (t && (r a.spot && is_within (a ∷ l) a.below r)) ≡ false
       head true = ap (λ t. t && is_within (a ∷ l) a.below r) out

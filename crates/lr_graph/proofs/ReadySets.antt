@@ -5,7 +5,7 @@ use Rattle.lr_base.specs.StampLaws.{part-join, part-set_part, part-set_part_othe
 use Rattle.lr_base.specs.Stamps.{part, join, set_part}
 use Rattle.lr_base.specs.declared.messages.LogUpdate.{LogUpdate}
 use Rattle.lr_base.specs.declared.names.Spot.{Spot}
-use Rattle.lr_graph.specs.Closed.{IsAmong, IsWithin, IsClosed, IsMade, IsSound, HasApartSpots, HasOlderCauses, causes}
+use Rattle.lr_graph.specs.Closed.{IsAmong, IsWithin, IsClosed, IsAccepted, IsSound, HasApartSpots, HasOlderCauses, causes}
 use Rattle.lr_graph.specs.Graph.{Acceptance, is_within, ready}
 use Rattle.lr_graph.specs.Names.{Names, spot_at}
 use Rattle.lr_graph.specs.Sets.{SpotSet, same_spot, only, ◌∪◌}
@@ -75,13 +75,13 @@ self-below [] older a member = absurd member
 self-below {Op} (b ∷ l) older a (inl e) = ap (λ (c : Acceptance Op). c.below c.spot) e ∙ older.0
 self-below (b ∷ l) older a (inr member) = self-below l older.2 a member
 
-pub causes-made : {Op : Type 0} (l : List (Acceptance Op)) → HasOlderCauses l → (a : Acceptance Op) → IsAmong a l → (s : Spot) → causes a s ≡ true → IsMade l s
-causes-made [] older a member s h = absurd member
-causes-made {Op} (b ∷ l) older a (inl e) s h =
+pub causes-accepted : {Op : Type 0} (l : List (Acceptance Op)) → HasOlderCauses l → (a : Acceptance Op) → IsAmong a l → (s : Spot) → causes a s ≡ true → IsAccepted l s
+causes-accepted [] older a member s h = absurd member
+causes-accepted {Op} (b ∷ l) older a (inl e) s h =
     let made = older.1 s (ap (λ (c : Acceptance Op). causes c s) (sym e) ∙ h) in
     (made.0, inr made.1, made.2)
-causes-made (b ∷ l) older a (inr member) s h =
-    let made = causes-made l older.2 a member s h in
+causes-accepted (b ∷ l) older a (inr member) s h =
+    let made = causes-accepted l older.2 a member s h in
     (made.0, inr made.1, made.2)
 
 -- below an acceptance are its causes and itself
@@ -95,11 +95,11 @@ below-parts a self s = same-test _ _ (λ h. parted h (same_spot s a.spot) refl) 
     parted h true e = or-right (a.below s && false) true refl
     parted h false e = or-left (a.below s && true) false (and-intro (a.below s) true h refl)
 
-pub below-made : {Op : Type 0} (l : List (Acceptance Op)) → IsSound l → (a : Acceptance Op) → IsAmong a l → (s : Spot) → a.below s ≡ true → IsMade l s
-below-made {Op} l sound a member s h = by_part (or-cases (causes a s) _ (sym (below-parts a (self-below l sound.older a member) s) ∙ h))
+pub below-accepted : {Op : Type 0} (l : List (Acceptance Op)) → IsSound l → (a : Acceptance Op) → IsAmong a l → (s : Spot) → a.below s ≡ true → IsAccepted l s
+below-accepted {Op} l sound a member s h = by_part (or-cases (causes a s) _ (sym (below-parts a (self-below l sound.older a member) s) ∙ h))
   where
-    by_part : (causes a s ≡ true) ⊎ (same_spot s a.spot ≡ true) → IsMade l s
-    by_part (inl k) = causes-made l sound.older a member s k
+    by_part : (causes a s ≡ true) ⊎ (same_spot s a.spot ≡ true) → IsAccepted l s
+    by_part (inl k) = causes-accepted l sound.older a member s k
     by_part (inr k) = (a, member, sym (same_spot-is s a.spot k))
 
 -- ---- the sets that stamps stand for

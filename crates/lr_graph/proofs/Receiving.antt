@@ -18,7 +18,7 @@ use Rattle.lr_base.specs.declared.names.Actor.TheVariants.{Client, Replica}
 use Rattle.lr_base.specs.declared.names.Cid.{Cid}
 use Rattle.lr_base.specs.declared.names.Config.{Config}
 use Rattle.lr_base.specs.declared.names.Spot.{Spot}
-use Rattle.lr_graph.specs.Closed.{IsAmong, IsMade, IsSetOf, IsSound}
+use Rattle.lr_graph.specs.Closed.{IsAmong, IsAccepted, IsSetOf, IsSound}
 use Rattle.lr_graph.specs.Graph.{Acceptance, Carried, DoneReply, Facts, LabelledCall, QueryCopy, SentMessage, UpdateCopy, below_of, ready}
 use Rattle.lr_graph.specs.Legal.{done_line, logged, next_number}
 use Rattle.lr_graph.specs.Names.{Names, spot_at}
@@ -104,7 +104,7 @@ module _ {Value Op : Type 0} (m : Meaning Value Op) (config : Config) (issued : 
   abbrev pub spot : Spot
   spot = spot_at i (part state.rep_ts i + 1)
 
-  fresh : IsMade l spot → ⊥
+  fresh : IsAccepted l spot → ⊥
   fresh = next-fresh m config l shared.sound (w.received i) (logged config w i) (w.kept i) (w.held i) state ok i own_at (shared.exist i)
 
   abbrev some : 0 < part state.rep_ts i + 1
@@ -189,17 +189,17 @@ module _ {Value Op : Type 0} (m : Meaning Value Op) (config : Config) (issued : 
           (ap (λ (r : SpotSet). r spot) (put-same i (w.received i ∪ only spot) w.received) ∙ or-right (w.received i spot) _ (same_spot-self spot))
       own_all b (inr member) = received-grows b.spot.place b.spot (shared.own b member)
 
-      exist_all : (j : ℕ) (s : Spot) → w1.received j s ≡ true → IsMade (a ∷ l) s
+      exist_all : (j : ℕ) (s : Spot) → w1.received j s ≡ true → IsAccepted (a ∷ l) s
       exist_all j s e = by_place (j == i) refl e
         where
-          made : (k : ℕ) → w.received k s ≡ true → IsMade (a ∷ l) s
+          made : (k : ℕ) → w.received k s ≡ true → IsAccepted (a ∷ l) s
           made k h = let b = shared.exist k s h in (b.0, inr b.1, b.2)
 
-          by_place : (t : Bool) → (j == i) ≡ t → cond t (w.received i ∪ only spot) (w.received j) s ≡ true → IsMade (a ∷ l) s
+          by_place : (t : Bool) → (j == i) ≡ t → cond t (w.received i ∪ only spot) (w.received j) s ≡ true → IsAccepted (a ∷ l) s
           by_place false q h = made j h
           by_place true q h = by_part (or-cases (w.received i s) _ h)
             where
-              by_part : (w.received i s ≡ true) ⊎ (same_spot s spot ≡ true) → IsMade (a ∷ l) s
+              by_part : (w.received i s ≡ true) ⊎ (same_spot s spot ≡ true) → IsAccepted (a ∷ l) s
               by_part (inl k) = made i k
               by_part (inr k) = (a, inl refl, sym (same_spot-is s spot k))
 

@@ -19,7 +19,7 @@ use Rattle.lr_base.specs.declared.names.Actor.TheVariants.{Client, Replica}
 use Rattle.lr_base.specs.declared.names.Cid.{Cid}
 use Rattle.lr_base.specs.declared.names.Config.{Config}
 use Rattle.lr_base.specs.declared.names.Spot.{Spot}
-use Rattle.lr_graph.specs.Closed.{Each, IsAmong, IsMade, IsSetOf, IsSound, causes}
+use Rattle.lr_graph.specs.Closed.{Each, IsAmong, IsAccepted, IsSetOf, IsSound, causes}
 use Rattle.lr_graph.specs.Graph.{Acceptance, AnswerReply, GossipOf, Carried, DoneReply, Facts, FrontFacts, Kept, LabelledCall, QueryCopy, SentMessage, UpdateCopy, ready}
 use Rattle.lr_graph.specs.Legal.{logged}
 use Rattle.lr_graph.specs.Names.{IsCounted, Names}
@@ -58,7 +58,7 @@ pub record IsIssued {Op : Type 0} (clients : ℕ) (issued : Cid → Option (Labe
 pub record SameGossip {Op : Type 0} (replicas : ℕ) (l : List (Acceptance Op)) (received : ℕ → SpotSet) (names : SpotSet) (g : Gossip Op) : Type 0 where
   pub logs : SpotSet
   pub counted : IsCounted names g.rep_ts
-  pub exist : (s : Spot) → names s ≡ true → IsMade l s
+  pub exist : (s : Spot) → names s ≡ true → IsAccepted l s
   pub log : IsLogOf l logs g.updates
   pub within : (s : Spot) → logs s ≡ true → names s ≡ true
   pub elsewhere : (s : Spot) → names s ≡ true → logs s ≡ false → (j : ℕ) → j < replicas → received j s ≡ true
@@ -138,7 +138,7 @@ pub record IsShared {Value Op : Type 0} (m : Meaning Value Op) (config : Config)
   pub sound : IsSound w.accepted
   pub each : Each (IsAcceptance m config issued (calls_in w)) w.accepted
   pub own : (a : Acceptance Op) → IsAmong a w.accepted → w.received a.spot.place a.spot ≡ true
-  pub exist : (i : ℕ) (s : Spot) → w.received i s ≡ true → IsMade w.accepted s
+  pub exist : (i : ℕ) (s : Spot) → w.received i s ≡ true → IsAccepted w.accepted s
   pub fronts_are : (client : ℕ) → client < config.clients → HasFront w.accepted fronts client (w.front client)
   pub opened : (client : ℕ) → IsOpen config.clients issued (calls_in w) (w.front client).open_call
   pub count : length w.messages ≡ length posted

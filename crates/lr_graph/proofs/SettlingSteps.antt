@@ -16,7 +16,7 @@ use Rattle.lr_graph.specs.Names.{IsCounted, Names, spot_at}
 use Rattle.lr_graph.specs.Sets.{SpotSet, only, same_spot, ◌∪◌}
 use Rattle.lr_graph.proofs.KeptSpots.{IsFirst, least_spot-first, spot_to_keep}
 use Rattle.lr_graph.proofs.Members.{each-at, each-from, each-map}
-use Rattle.lr_graph.proofs.ReadySets.{apart-same, below-made, below-parts, causes-made, holds-ready, names-join, ready-closed, ready-received, self-below, update-stamp}
+use Rattle.lr_graph.proofs.ReadySets.{apart-same, below-accepted, below-parts, causes-accepted, holds-ready, names-join, ready-closed, ready-received, self-below, update-stamp}
 use Rattle.lr_graph.proofs.Taking.{IsTaken, known_of-either, known_of-more}
 use Rattle.lr_graph.proofs.Tests.{and-intro, and-right, never, or-cases, or-false, or-false_left, or-false_right, or-left, or-right, same_cid-is, same_spot-is, same_spot-self}
 use Rattle.lr_graph.proofs.Ties.{HasOneCall, HasUpdateAt, IsAscending, IsUpdateOf, StandsFor}
@@ -67,7 +67,7 @@ module _ {Op : Type 0} (l : List (Acceptance Op)) (r : SpotSet) (sound : IsSound
   -- all that is below a ready acceptance is ready
   pub below-ready : (a : Acceptance Op) → IsAmong a l → ready l r a.spot ≡ true → (s : Spot) → a.below s ≡ true → ready l r s ≡ true
   below-ready a member is_ready s h =
-      let b = below-made l sound a member s h in
+      let b = below-accepted l sound a member s h in
       ap (ready l r) (sym b.2) ∙ each-at _ b.0 l (each-at _ a l (ready-closed l r sound) member is_ready) b.1 (ap a.below b.2 ∙ h)
 
   -- an acceptance is ready where it and its causes are received
@@ -82,7 +82,7 @@ module _ {Op : Type 0} (l : List (Acceptance Op)) (r : SpotSet) (sound : IsSound
   pub applicable-ready : (rep_ts val_ts : List ℕ) (named : SpotSet) → IsCounted r rep_ts → Names val_ts named → ((s : Spot) → named s ≡ true → ready l r s ≡ true)
       → (u : LogUpdate Op) (a : Acceptance Op) → StandsFor l u a → stamp_le u.prev val_ts ≡ true → r a.spot ≡ true → ready l r a.spot ≡ true
   applicable-ready rep_ts val_ts named counted names within u a stands low here = causes-ready a stands.among here (λ s h.
-      let b = causes-made l sound.older a stands.among s h in
+      let b = causes-accepted l sound.older a stands.among s h in
       let some : 0 < s.number = subst (λ (k : Spot). 0 < k.number) b.2 (each-at _ b.0 l sound.numbered b.1) in
       let above : s.number ≤ part u.prev s.place = stands.prev.above s h in
       let lower : part u.prev s.place ≤ part val_ts s.place = parts-stamp_le u.prev val_ts low s.place in

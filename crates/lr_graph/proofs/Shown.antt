@@ -6,7 +6,7 @@ use Rattle.lr_base.specs.declared.messages.Call.{Call}
 use Rattle.lr_base.specs.declared.messages.LogAck.{LogAck}
 use Rattle.lr_base.specs.declared.names.Config.{Config}
 use Rattle.lr_base.specs.declared.names.Spot.{Spot}
-use Rattle.lr_graph.specs.Closed.{IsMade, IsSound}
+use Rattle.lr_graph.specs.Closed.{IsAccepted, IsSound}
 use Rattle.lr_graph.specs.Graph.{Acceptance, Facts, LabelledCall, ready}
 use Rattle.lr_graph.specs.Legal.{logged, state_line_of}
 use Rattle.lr_graph.proofs.CallLists.{calls-table}
@@ -22,7 +22,7 @@ held-cids clients l (c ∷ cs) [] h = absurd h
 held-cids clients l (c ∷ cs) (d ∷ ds) h = λ i. h.0.call.cid i ∷ held-cids clients l cs ds h.1 i
 
 -- what is printed of a replica is the same in the graph and by the rules
-pub same-line : {Value Op : Type 0} (m : Meaning Value Op) (config : Config) (w : Facts Op) (i : ℕ) → IsSound w.accepted → ((s : Spot) → w.received i s ≡ true → IsMade w.accepted s)
+pub same-line : {Value Op : Type 0} (m : Meaning Value Op) (config : Config) (w : Facts Op) (i : ℕ) → IsSound w.accepted → ((s : Spot) → w.received i s ≡ true → IsAccepted w.accepted s)
     → (replica : ReplicaState Value Op) → replica.me ≡ i → IsReplicaAt m config w.accepted (w.received i) (logged config w i) (w.kept i) (w.held i) replica.causal
     → state_line_of config w i ≡ line_by_rules replica
 same-line m config w i sound exist replica number ok =

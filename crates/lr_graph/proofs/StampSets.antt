@@ -1,33 +1,27 @@
 -- A stamp is the join of the stamps of the acceptances that its set names.
 use Rattle.std.proofs.Common.{◌≡◌, ℕ, zero, suc, ◌<◌, ◌≤◌, max, Bool, true, false, cond, ◌&&◌, ◌==◌, ◌⊎◌, inl, inr, find, List, [], ◌∷◌, Option, Some, None, refl, sym, ap, ◌∙◌, subst, arith, true≢false, eqb-true, eq-eqb}
 use Rattle.std.specs.List.{slice_get}
-use Rattle.lr_base.specs.Meaning.{Lawful, Meaning}
+use Rattle.lr_base.specs.Meaning.{Meaning}
 use Rattle.lr_base.specs.Replicas.{ReplicaState}
 use Rattle.lr_base.specs.Rules.{stamp_of}
 use Rattle.lr_base.specs.Stamps.{part, stamp_le}
 use Rattle.lr_base.specs.declared.acts.Posted.{Posted}
-use Rattle.lr_base.specs.declared.events.Event.{Event}
-use Rattle.lr_base.specs.declared.events.Outcome.{Outcome}
-use Rattle.lr_base.specs.declared.lr_service.Kind.{Kind}
 use Rattle.lr_base.specs.declared.messages.Call.{Call}
 use Rattle.lr_base.specs.declared.messages.LogUpdate.{LogUpdate}
 use Rattle.lr_base.specs.declared.messages.Message.{Message}
 use Rattle.lr_base.specs.declared.names.Config.{Config}
 use Rattle.lr_base.specs.declared.names.Spot.{Spot}
-use Rattle.lr_graph.specs.After.{after}
-use Rattle.lr_graph.specs.Central.{CarriesStamp, HasStamps, IsCentral, IsHeldIn, IsUpdateIn, StandsForSet, facts_after, greatest, joined}
+use Rattle.lr_graph.specs.Central.{CarriesStamp, HasStamps, IsCentral, IsHeldIn, IsUpdateIn, StandsForSet, greatest, joined}
 use Rattle.lr_graph.specs.Closed.{Each, HasApartSpots, HasOlderCauses, IsAmong, IsSetOf, IsSound, causes}
-use Rattle.lr_graph.specs.Graph.{Acceptance, Carried, Facts, LabelledCall, SentMessage, first_facts, is_within, ready}
+use Rattle.lr_graph.specs.Graph.{Acceptance, Carried, Facts, LabelledCall, SentMessage, is_within, ready}
 use Rattle.lr_graph.specs.Legal.{logged}
 use Rattle.lr_graph.specs.Names.{Names, spot_at}
-use Rattle.lr_graph.specs.Runs.{IsEventOf, RunState, first_run, history_of, run_after, steps_from, stepped}
+use Rattle.lr_graph.specs.Runs.{RunState}
 use Rattle.lr_graph.specs.Sets.{SpotSet, same_spot}
 use Rattle.lr_graph.proofs.Central.{below-set, stamp_le-within}
 use Rattle.lr_graph.proofs.Ending.{ready-set}
-use Rattle.lr_graph.proofs.Events.{same-step}
-use Rattle.lr_graph.proofs.Law.{first-same}
 use Rattle.lr_graph.proofs.Members.{each-at, each-from, each-map}
-use Rattle.lr_graph.proofs.ReadySets.{causes-made, self-below, update-stamp}
+use Rattle.lr_graph.proofs.ReadySets.{causes-accepted, self-below, update-stamp}
 use Rattle.lr_graph.proofs.Relation.{IsReplicaAt, IsSame, SameCarried, SameHeld, SameList, SameMessage, SameOption, calls_in, same_answer, same_done, same_gossip, same_query, same_update}
 use Rattle.lr_graph.proofs.Ties.{IsUpdateOf}
 use Rattle.lr_graph.proofs.Tests.{and-intro, and-left, and-right, decided, never, not-false, same_spot-is, same_spot-self}
@@ -115,17 +109,17 @@ module _ {Op : Type 0} where
   one-way (x ∷ l) apart older a b (inl p) (inl q) f g =
       true≢false (sym (same_spot-self a.spot) ∙ ap (same_spot a.spot) (ap (λ (c : Acceptance Op). c.spot) (p ∙ sym q)) ∙ not-false (same_spot a.spot b.spot) (and-right (b.below a.spot) _ g))
   one-way (x ∷ l) apart older a b (inl p) (inr q) f g =
-      let made = causes-made l older.2 b q a.spot g in
+      let made = causes-accepted l older.2 b q a.spot g in
       true≢false (sym (same_spot-self a.spot) ∙ ap (λ s. same_spot s a.spot) (sym made.2) ∙ ap (λ (c : Acceptance Op). same_spot made.0.spot c.spot) p ∙ each-at _ made.0 l apart.0 made.1)
   one-way (x ∷ l) apart older a b (inr p) (inl q) f g =
-      let made = causes-made l older.2 a p b.spot f in
+      let made = causes-accepted l older.2 a p b.spot f in
       true≢false (sym (same_spot-self b.spot) ∙ ap (λ s. same_spot s b.spot) (sym made.2) ∙ ap (λ (c : Acceptance Op). same_spot made.0.spot c.spot) q ∙ each-at _ made.0 l apart.0 made.1)
   one-way (x ∷ l) apart older a b (inr p) (inr q) f g = one-way l apart.1 older.2 a b p q f g
 
   -- the causes of an acceptance come with their own
   causes-set : (l : List (Acceptance Op)) → IsSound l → (a : Acceptance Op) → IsAmong a l → IsSetOf l (causes a)
   causes-set l sound a member = record {
-    exist = causes-made l sound.older a member;
+    exist = causes-accepted l sound.older a member;
     closed = each-from _ l (λ b in_b here. each-from _ l (λ c in_c below.
         and-intro (a.below c.spot) _ (each-at _ c l (each-at _ b l (each-at _ a l sound.closed member) in_b (and-left (a.below b.spot) _ here)) in_c below)
         (apart b in_b here c below (decided (same_spot c.spot a.spot)))));
@@ -202,6 +196,7 @@ module _ {Value Op : Type 0} (m : Meaning Value Op) (config : Config) (w : Facts
       has-stamps i tied.1.replica (subst (λ state. IsReplicaAt m config w.accepted (w.received i) (logged config w i) (w.kept i) (w.held i) state) (sym tied.1.state_is) tied.2),
     ));
     labels = λ client inside. (let f = same.shared.fronts_are client inside in (f.0, f.1, stands f.0.label (w.front client).label f.2.names f.2.set));
+    count = same.shared.count;
     messages = λ n p there. by_found n p (find (λ y. y.number == n) w.messages) refl (subst (λ o. SameOption (SameMessage m config w.accepted w.received same.issued (calls_in w)) (find (λ y. y.number == n) w.messages) o) there (same.shared.messages n));
   }
     where
@@ -213,17 +208,3 @@ module _ {Value Op : Type 0} (m : Meaning Value Op) (config : Config) (w : Facts
               → (x : SentMessage Op) × (find (λ y. y.number == n) w.messages ≡ Some x) × CarriesStamp config w v x.what p.message
           go None e h = absurd h
           go (Some x) e h = (x, e, carries x.what p.message h.what)
-
--- ---- along a run
-
-module _ {Value Op : Type 0} (m : Meaning Value Op) (kind_of : Op → Kind) (lawful : Lawful m kind_of) (config : Config) where
-  same-after : (events : List (Event Op)) (w : Facts Op) (v : RunState Value Op) → Each (IsEventOf m config) events → IsSame m config w v → IsSame m config (facts_after w (steps_from m v events)) (run_after m v events)
-  same-after [] w v fit same = same
-  same-after (event ∷ events) w v fit same =
-      let step = same-step m kind_of lawful config w v same event fit.0 in
-      same-after events (after w (record { event = event; outcomes = (stepped m v event).outcomes })) (stepped m v event).run fit.1
-      (subst (λ (lines : List Outcome). IsSame m config (after w (record { event = event; outcomes = lines })) (stepped m v event).run) (sym step.lines) step.same)
-
-  pub run-central : (events : List (Event Op)) → Each (IsEventOf m config) events → IsCentral config (facts_after first_facts (history_of m config events)) (run_after m (first_run m config) events)
-  run-central events fit =
-      same-central m config _ _ (same-after events first_facts (first_run m config) fit (first-same m config))

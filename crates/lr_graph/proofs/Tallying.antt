@@ -2,7 +2,7 @@
 use Rattle.std.proofs.Common.{◌≡◌, ◌≢◌, ℕ, zero, suc, ◌+◌, ◌<◌, ◌≤◌, Bool, true, false, cond, ◌&&◌, ◌||◌, ◌==◌, ◌⊎◌, inl, inr, nat_le, List, [], ◌∷◌, ◌++◌, length, refl, sym, ap, ◌∙◌, arith, true≢false, eqb-true, eq-eqb, leb-true, le-leb}
 use Rattle.lr_base.specs.Stamps.{part}
 use Rattle.lr_base.specs.declared.names.Spot.{Spot}
-use Rattle.lr_graph.specs.Closed.{Each, HasApartSpots, IsAmong, IsMade, IsSound}
+use Rattle.lr_graph.specs.Closed.{Each, HasApartSpots, IsAmong, IsAccepted, IsSound}
 use Rattle.lr_graph.specs.Graph.{Acceptance, counts, made}
 use Rattle.lr_graph.specs.Names.{IsCounted, spot_at}
 use Rattle.lr_graph.specs.Sets.{SpotSet, how_many, same_spot}
@@ -48,7 +48,7 @@ firsts-all (x ∷ stamp) = firsts-behind x stamp (length stamp) ∙ ap (λ (xs :
 
 module _ {Op : Type 0} (l : List (Acceptance Op)) where
   -- a spot that was taken is that of one acceptance
-  pub how_many-only : HasApartSpots l → (s : Spot) → IsMade l s → how_many (λ a. same_spot a.spot s) l ≡ 1
+  pub how_many-only : HasApartSpots l → (s : Spot) → IsAccepted l s → how_many (λ a. same_spot a.spot s) l ≡ 1
   how_many-only apart s made = go l apart made.0 made.1 made.2
     where
       go : (k : List (Acceptance Op)) → HasApartSpots k → (a : Acceptance Op) → IsAmong a k → a.spot ≡ s → how_many (λ a. same_spot a.spot s) k ≡ 1
@@ -63,7 +63,7 @@ module _ {Op : Type 0} (l : List (Acceptance Op)) where
           ap (λ t. cond t (suc (how_many (λ c. same_spot c.spot s) k)) (how_many (λ c. same_spot c.spot s) k)) out ∙ go k apart.1 a member is
 
   -- as many acceptances of a place are numbered up to n as the numbers are
-  pub how_many-to : IsSound l → (place n : ℕ) → ((k : ℕ) → 1 ≤ k → k ≤ n → IsMade l (spot_at place k)) → how_many (λ a. (a.spot.place == place) && nat_le a.spot.number n) l ≡ n
+  pub how_many-to : IsSound l → (place n : ℕ) → ((k : ℕ) → 1 ≤ k → k ≤ n → IsAccepted l (spot_at place k)) → how_many (λ a. (a.spot.place == place) && nat_le a.spot.number n) l ≡ n
   how_many-to sound place zero made = how_many-none _ l (each-map _ _ l (λ a some. never _ (λ e. absurd (none a some (leb-true a.spot.number 0 (and-right (a.spot.place == place) _ e))))) sound.numbered)
     where
       none : (a : Acceptance Op) → 0 < a.spot.number → a.spot.number ≤ 0 → ⊥
@@ -108,7 +108,7 @@ module _ {Op : Type 0} (l : List (Acceptance Op)) where
                   let number : a.spot.number ≡ suc n = ap (λ (s : Spot). s.number) is in
                   and-intro (a.spot.place == place) _ (eq-eqb a.spot.place place (ap (λ (s : Spot). s.place) is)) (le-leb a.spot.number (suc n) (omega arith))
 
-  module _ (sound : IsSound l) (r : SpotSet) (rep : List ℕ) (counted : IsCounted r rep) (exist : (s : Spot) → r s ≡ true → IsMade l s) where
+  module _ (sound : IsSound l) (r : SpotSet) (rep : List ℕ) (counted : IsCounted r rep) (exist : (s : Spot) → r s ≡ true → IsAccepted l s) where
     -- as many acceptances of a place were received as the stamp counts
     pub received-count : (place : ℕ) → how_many (λ a. (a.spot.place == place) && r a.spot) l ≡ part rep place
     received-count place =

@@ -1,5 +1,5 @@
 -- What stamps stand for in a run: the sets of acceptances that they name.
-use Rattle.std.specs.Prelude.{◌≡◌, ◌<◌, ℕ, find, ◌&&◌, ◌==◌, max, if◌then◌else◌, List, [], ◌∷◌, Some}
+use Rattle.std.specs.Prelude.{◌≡◌, ◌<◌, ℕ, find, length, ◌&&◌, ◌==◌, max, if◌then◌else◌, List, [], ◌∷◌, Some}
 use Rattle.std.specs.List.{slice_get}
 use Rattle.lr_base.specs.Fronts.{FrontState}
 use Rattle.lr_base.specs.Replicas.{ReplicaState}
@@ -70,9 +70,10 @@ pub record HasStamps {Value Op : Type 0} (config : Config) (w : Facts Op) (v : R
   pub updates : Each (IsUpdateIn config w v) replica.causal.updates
   pub held : Each (IsHeldIn config w v i) replica.causal.held
 
--- causes exist and come first, and each stamp that a run has reached stands for a set: those of replicas, of labels and of messages
+-- causes exist and come first, the facts have as many messages as the run sent, and each stamp that it has reached stands for a set: those of replicas, of labels and of messages
 pub record IsCentral {Value Op : Type 0} (config : Config) (w : Facts Op) (v : RunState Value Op) : Type 0 where
   pub sound : IsSound w.accepted
   pub replicas : (i : ℕ) → i < config.replicas → (replica : ReplicaState Value Op) × (slice_get v.replicas i ≡ Some replica) × HasStamps config w v i replica
   pub labels : (client : ℕ) → client < config.clients → (front : FrontState) × (slice_get v.fronts client ≡ Some front) × StandsForSet config w v front.label (w.front client).label
+  pub count : length w.messages ≡ length v.posted
   pub messages : (n : ℕ) (p : Posted Op) → message_at v.posted n ≡ Some p → (x : SentMessage Op) × (find (λ y. y.number == n) w.messages ≡ Some x) × CarriesStamp config w v x.what p.message

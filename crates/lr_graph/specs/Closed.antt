@@ -23,8 +23,8 @@ abbrev pub IsClosed : {Op : Type 0} → List (Acceptance Op) → SpotSet → Typ
 IsClosed accepted x = Each (λ a. x a.spot ≡ true → IsWithin accepted a.below x) accepted
 
 -- an acceptance of this spot is in the list
-abbrev pub IsMade : {Op : Type 0} → List (Acceptance Op) → Spot → Type 0
-IsMade {Op} accepted spot = (a : Acceptance Op) × IsAmong a accepted × (a.spot ≡ spot)
+abbrev pub IsAccepted : {Op : Type 0} → List (Acceptance Op) → Spot → Type 0
+IsAccepted {Op} accepted spot = (a : Acceptance Op) × IsAmong a accepted × (a.spot ≡ spot)
 
 -- what is below an acceptance, without itself
 abbrev pub causes : {Op : Type 0} → Acceptance Op → SpotSet
@@ -35,10 +35,10 @@ abbrev pub HasApartSpots : {Op : Type 0} → List (Acceptance Op) → Type 0
 HasApartSpots [] = Unit {0}
 HasApartSpots (a ∷ older) = Each (λ b. same_spot b.spot a.spot ≡ false) older × HasApartSpots older
 
--- each acceptance is below itself, and its causes were made before it
+-- each acceptance is below itself, and its causes were accepted before it
 abbrev pub HasOlderCauses : {Op : Type 0} → List (Acceptance Op) → Type 0
 HasOlderCauses [] = Unit {0}
-HasOlderCauses (a ∷ older) = (a.below a.spot ≡ true) × ((spot : Spot) → causes a spot ≡ true → IsMade older spot) × HasOlderCauses older
+HasOlderCauses (a ∷ older) = (a.below a.spot ≡ true) × ((spot : Spot) → causes a spot ≡ true → IsAccepted older spot) × HasOlderCauses older
 
 -- what holds of the acceptances of every history
 pub record IsSound {Op : Type 0} (accepted : List (Acceptance Op)) : Type 0 where
@@ -47,7 +47,7 @@ pub record IsSound {Op : Type 0} (accepted : List (Acceptance Op)) : Type 0 wher
   pub older : HasOlderCauses accepted
   pub numbered : Each (λ a. 0 < a.spot.number) accepted
 
--- a set of acceptances that were made, with all that is below them
+-- a set of spots that were accepted, with all that is below their acceptances
 pub record IsSetOf {Op : Type 0} (accepted : List (Acceptance Op)) (x : SpotSet) : Type 0 where
-  pub exist : (spot : Spot) → x spot ≡ true → IsMade accepted spot
+  pub exist : (spot : Spot) → x spot ≡ true → IsAccepted accepted spot
   pub closed : IsClosed accepted x

@@ -2,8 +2,10 @@ pub mod Sets
 pub mod Graph
 pub mod After
 pub mod Legal
+pub mod LegalFact
 pub mod Worked
 pub mod Runs
+pub mod Made
 pub mod Closed
 pub mod Names
 pub mod Central

@@ -1,19 +1,32 @@
 //! Laws about legal histories: each function does nothing, and its contract is the law.
-ghost use Rattle.std.specs.Prelude.{◌≡◌, List, map};
+ghost use Rattle.std.specs.Prelude.{◌≡◌, ◌++◌, ◌∷◌, [], List, map};
 ghost use Rattle.lr_graph.specs.Central.{IsCentral, facts_after};
 ghost use Rattle.lr_graph.specs.Closed.{Each, IsClosed, IsSound, IsWithin};
 ghost use Rattle.lr_graph.specs.Graph.{Acceptance, first_facts, ready};
 ghost use Rattle.lr_graph.specs.Legal.{IsLegal};
-ghost use Rattle.lr_graph.specs.Runs.{IsEventOf, first_run, history_of, run_after};
+ghost use Rattle.lr_graph.specs.Made.{IsMade, made_step};
+ghost use Rattle.lr_graph.specs.Runs.{IsEventOf, RunState, first_run, history_of, run_after, stepped};
 ghost use Rattle.lr_graph.specs.Sets.{SpotSet};
 
 use lr_base::lr_service::Service;
 use lr_base::{Config, Event, Step};
 
-/// What the actors of a run make of their events, each by its own rules, is a legal history.
+/// A history that the actors of a run make, each by its own rules, is legal.
+pub fn what_is_made_is_legal<S: Service>()
+    ensures { (config : Config) (steps : List (Step S.Op)) (run : RunState S S.Op) → IsMade S.meaning config steps run → IsLegal S.meaning config steps }
+{}
+
+/// Before any event no step is made, and after each step every event of the run makes one more.
+pub fn a_made_history_goes_on<S: Service>()
+    ensures first { (config : Config) → IsMade S.meaning config [] (first_run S.meaning config) }
+    ensures next { (config : Config) (steps : List (Step S.Op)) (run : RunState S S.Op) (event : Event S.Op) → IsMade S.meaning config steps run → IsEventOf S.meaning config event → IsMade S.meaning config (steps ++ made_step S.meaning run event ∷ []) (stepped S.meaning run event).run }
+{}
+
+/// Of each list of its events the actors of a run make a history, which has just these events and is legal.
 pub fn runs_are_legal<S: Service>()
     ensures legal { (config : Config) (events : List (Event S.Op)) → Each (IsEventOf S.meaning config) events → IsLegal S.meaning config (history_of S.meaning config events) }
     ensures events { (config : Config) (events : List (Event S.Op)) → map (λ step. step.event) (history_of S.meaning config events) ≡ events }
+    ensures made { (config : Config) (events : List (Event S.Op)) → Each (IsEventOf S.meaning config) events → IsMade S.meaning config (history_of S.meaning config events) (run_after S.meaning (first_run S.meaning config) events) }
 {}
 
 /// Two legal histories of the same events are one.
@@ -21,9 +34,9 @@ pub fn legal_histories_are_one<S: Service>()
     ensures { (config : Config) (one other : List (Step S.Op)) → IsLegal S.meaning config one → IsLegal S.meaning config other → map (λ step. step.event) one ≡ map (λ step. step.event) other → one ≡ other }
 {}
 
-/// After every run each stamp stands for a set of acceptances, and what a replica received is a prefix at each place.
+/// After every history that the actors make, each stamp of the run stands for a set of acceptances, what a replica received is a prefix at each place, and the facts have as many messages as were sent.
 pub fn stamps_stand_for_sets<S: Service>()
-    ensures { (config : Config) (events : List (Event S.Op)) → Each (IsEventOf S.meaning config) events → IsCentral config (facts_after first_facts (history_of S.meaning config events)) (run_after S.meaning (first_run S.meaning config) events) }
+    ensures { (config : Config) (steps : List (Step S.Op)) (run : RunState S S.Op) → IsMade S.meaning config steps run → IsCentral config (facts_after first_facts steps) run }
 {}
 
 /// What is ready is received and has all its causes, and every such set is within it.

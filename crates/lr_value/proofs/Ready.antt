@@ -48,20 +48,6 @@ module _ {Op : Type 0} where
   pub TakesAt-first : (val_ts : List ℕ) (todo : List (LogUpdate Op)) (at : ℕ) (first : LogUpdate Op) → slice_get todo at ≡ Some first → stamp_le first.prev val_ts ≡ true → ((k : ℕ) (u : LogUpdate Op) → k < at → slice_get todo k ≡ Some u → stamp_le u.prev val_ts ≡ false) → TakesAt val_ts todo at
   TakesAt-first val_ts todo at first is ready blocked = λ u here. let same : first ≡ u = let e : Some first ≡ Some u = sym is ∙ here in cc in rw (← same) (take_ready-first val_ts todo at first is ready blocked)
 
-  -- a stretch that gained one more
-  pub blocked-more : (val_ts : List ℕ) (todo : List (LogUpdate Op)) (at : ℕ) (here : LogUpdate Op) → slice_get todo at ≡ Some here → stamp_le here.prev val_ts ≡ false → ((k : ℕ) (u : LogUpdate Op) → k < at → slice_get todo k ≡ Some u → stamp_le u.prev val_ts ≡ false) → (k : ℕ) (u : LogUpdate Op) → k < at + 1 → slice_get todo k ≡ Some u → stamp_le u.prev val_ts ≡ false
-  blocked-more val_ts todo at here is blocks blocked k u below e = go (eq-or-lt_of_le (omega arith))
-    where
-      go : (k ≡ at) ⊎ (k < at) → stamp_le u.prev val_ts ≡ false
-      go (inl same) = let e' : slice_get todo at ≡ Some u = rw (← same) e in let here' : Some here ≡ Some u = sym is ∙ e' in let is' : here ≡ u = cc in rw (← is') blocks
-      go (inr before) = blocked k u before e
-
-  -- an index at which there is an update lies within
-  pub behind-within : (references : List (Bor (LogUpdate Op))) (k : ℕ) (u : LogUpdate Op) → slice_get (behind references) k ≡ Some u → k < length references
-  behind-within [] k u e = let none : None ≡ Some u = e in cc
-  behind-within (x ∷ references) zero u e = omega arith
-  behind-within (x ∷ references) (suc k) u e = let later = behind-within references k u e in omega arith
-
   -- applying goes on with the others behind the one that is taken
   pub apply_ready-step : {Value : Type 0} (m : Meaning Value Op) (references : List (Bor (LogUpdate Op))) (at : ℕ) (u : Bor (LogUpdate Op)) (p : Progress Value) → at < length references → u ≡ get_or references at u → TakesAt p.val_ts (behind references) at → apply_ready m (length references) (behind references) p ≡ apply_ready m (length (remove references at)) (behind (remove references at)) (apply_one m p u.now)
   apply_ready-step m references at u p within is takes =
@@ -81,9 +67,3 @@ module _ {Op : Type 0} where
       go : (k ≡ at) ⊎ (k < at) → P u
       go (inl same) = let e' : slice_get todo at ≡ Some u = rw (← same) e in let here' : Some here ≡ Some u = sym is ∙ e' in let is' : here ≡ u = cc in subst P is' own
       go (inr before) = all k u before e
-
-  -- an index at which there is one lies within
-  pub is-within : (todo : List (LogUpdate Op)) (k : ℕ) (u : LogUpdate Op) → slice_get todo k ≡ Some u → k < length todo
-  is-within [] k u e = let none : None ≡ Some u = e in cc
-  is-within (x ∷ todo) zero u e = omega arith
-  is-within (x ∷ todo) (suc k) u e = let later = is-within todo k u e in omega arith

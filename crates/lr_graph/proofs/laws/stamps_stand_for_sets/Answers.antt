@@ -1,5 +1,9 @@
-use Rattle.lr_graph.proofs.StampSets.{run-central}
+use Rattle.lr_graph.specs.Central.{facts_after}
+use Rattle.lr_graph.specs.Graph.{first_facts}
+use Rattle.lr_graph.proofs.Law.{same-after}
+use Rattle.lr_graph.proofs.StampSets.{same-central}
 use Rattle.lr_graph.proofs.laws.stamps_stand_for_sets.Goals as goal
 
 pub returns : goal.returns
-returns g c config events fit = run-central g.S.Service.meaning _ g.met.S.Service.lawful config events fit
+returns g c config steps run made =
+    same-central g.S.Service.meaning config (facts_after first_facts steps) run (same-after g.S.Service.meaning _ g.met.S.Service.lawful config steps run made)

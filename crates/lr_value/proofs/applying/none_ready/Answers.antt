@@ -1,8 +1,8 @@
 use Rattle.std.proofs.Common.{◌≡◌, Bool, true, false, not, ◌&&◌, refl, sym, ◌∙◌, true≢false, arith}
-use Rattle.std.proofs.lemmas.Option.{slice_get_read}
+use Rattle.std.proofs.lemmas.Option.{slice_get_read, slice_get_within}
 use Rattle.lr_base.specs.Rules.{is_covered}
 use Rattle.lr_base.specs.Stamps.{stamp_le}
-use Rattle.lr_value.proofs.Ready.{each-more, is-within}
+use Rattle.lr_value.proofs.Ready.{each-more}
 use Rattle.lr_value.proofs.applying.none_ready.Goals as goal
 
 pub loop-update-init : goal.loop-update-init
@@ -43,4 +43,4 @@ loop-update-preserved g c = each-more (λ u. is_covered c.args.val_ts.now u ≡ 
     at true f e = let no : true ≡ false = rw (e, f) at other in cc
 
 pub returns : goal.returns
-returns g c = (λ t k u here. c.loop-update.invariant k u (let within = is-within c.args.updates.now k u here in omega arith) here, λ none. refl)
+returns g c = (λ t k u here. c.loop-update.invariant k u (let within = slice_get_within c.args.updates.now k u here in omega arith) here, λ none. refl)
