@@ -4,9 +4,9 @@ use Rattle.std.specs.Io.KnownBytes.{Appends, Consumes, IsAtEnd}
 use Rattle.lr_base.specs.Meaning.{Meaning}
 use Rattle.lr_base.specs.declared.events.Event.{Event}
 use Rattle.lr_outside.specs.Faults.{Rose}
-use Rattle.lr_script.specs.Faults.{IsScriptFault}
+use Rattle.lr_script.specs.Faults.{IsRefusal}
 use Rattle.lr_sim.specs.Headline.{HasBegun, HasPrinted}
-use Rattle.lr_script.specs.Script.{IsNoScript, IsScript}
+use Rattle.lr_script.specs.Script.{IsScript}
 use Rattle.lr_sim.specs.declared.command.SimEnd.{SimEnd}
 use Rattle.lr_sim.specs.declared.command.SimEnd.TheVariants.{Ok as Done, Script, ReadFault, WriteFault, NoMemory}
 use Rattle.lr_script.specs.declared.refusals.Cause.{Cause}
@@ -39,12 +39,6 @@ pub record HasRunPart {Value Op : Type 0} (m : Meaning Value Op) (bytes : List �
   pub events : List (Event Op)
   pub script : IsScript m header events bytes
   pub printed_part : HasBegun m header events before now
-
--- the bytes mean no header and no events: this is the first bad line, with the first cause at it; too many bytes are refused for just that
-pub record IsRefusal {Value Op : Type 0} (m : Meaning Value Op) (bytes : List ℕ) (line : ℕ) (cause : Cause) : Type 0 where
-  pub meaningless : IsNoScript m bytes
-  pub fault : IsScriptFault m bytes (Line line cause)
-  pub long : (cause ≡ TooLong) ↔ (8388608 < length bytes)
 
 -- what an end says of the bytes read and of what was written
 abbrev pub Means : {Value Op : Type 0} → Meaning Value Op → List ℕ → Option (List ℕ) → Option (List ℕ) → SimEnd → Type 0

@@ -1,14 +1,3 @@
-pub mod Asked
-pub mod Ends
-pub mod Faults
-pub mod Fields
-pub mod FrontAnswers
 pub mod Headline
-pub mod Posts
-pub mod Printed
-pub mod Rendered
-pub mod Script
-pub mod Shapes
-pub mod Tellable
-pub mod Texts
-pub mod Worlds
+pub mod Moved
+pub mod Ends

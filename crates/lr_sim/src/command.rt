@@ -1,22 +1,26 @@
 //! The command `sim`: reads a script to its end, runs it, and writes its history.
-ghost use Rattle.std.specs.Prelude.{ℕ, List, [], ◌≡◌, ◌≤◌, ◌≢◌, ◌++◌, OnOk, OnErr, length};
+ghost use Rattle.std.specs.Prelude.{ℕ, List, [], ◌∷◌, ◌≡◌, ◌+◌, ◌≤◌, ◌≢◌, ◌++◌, OnOk, OnErr, length};
 ghost use Rattle.std.specs.List.{All};
 ghost use Rattle.lr_base.specs.Kinds.{IsPlain};
 ghost use Rattle.lr_base.specs.Tally.{tally};
+ghost use Rattle.lr_base.specs.declared.events.Step.{Step};
 ghost use Rattle.lr_outside.specs.Faults.{Rose};
+ghost use Rattle.lr_report.specs.Printed.{step_text};
+ghost use Rattle.lr_script.specs.Script.{Fits, HasHeader, IsSetUp};
+ghost use Rattle.lr_script.specs.declared.refusals.Cause.{Cause};
 ghost use Rattle.lr_sim.specs.Ends.{IsComplete, IsFault, Means, SimEnded, SimMeans};
-ghost use Rattle.lr_sim.specs.Rendered.{HasMoved, HasRendered, HasRenderedPart};
-ghost use Rattle.lr_script.specs.Script.{Fits, IsSetUp, line_of};
-ghost use Rattle.lr_script.specs.Texts.{header_text};
+ghost use Rattle.lr_sim.specs.Headline.{HasBegun, HasPrinted};
+ghost use Rattle.lr_sim.specs.Moved.{HasMoved};
 
-use crate::report::{render_header, render_step};
-use crate::script::{Cause, Header, Name, ScriptFault, read_events, split_header};
-use crate::world::World;
 use lr_base::lr_service::Service;
 use lr_base::svc_tally::Tally;
 use lr_base::{Event, NoMemory, Text};
-use lr_graph::runs_are_legal;
 use lr_outside::{Failed, ReadEnd, Sink, Source, read_up_to, write_whole};
+use lr_report::{render_header, render_step};
+use lr_script::{
+    Cause, Header, Name, ScriptFault, read_header, read_script, what_is_refused_means_nothing,
+};
+use lr_world::World;
 use std::alloc::Global;
 
 // One byte more than a script may have.
@@ -61,9 +65,10 @@ fn simulate<W: Sink>(alloc: Global, bytes: &[u8], out: &mut W) -> SimEnd
     ensures write { result ≡ SimEnd.WriteFault → Rose (W.faults out.old) (W.faults out.new) }
     ensures later { W.faults out.old ≤ W.faults out.new }
 {
-    match split_header(bytes) {
-        Ok((header, lines)) => match header.service {
-            Name::Tally => simulate_lines::<Tally, W>(alloc, header, lines, out),
+    what_is_refused_means_nothing::<Tally>();
+    match read_header(bytes) {
+        Ok(header) => match header.service {
+            Name::Tally => simulate_script::<Tally, W>(alloc, &header, bytes, out),
         },
         Err(fault) => refused(fault),
     }
@@ -78,31 +83,29 @@ fn refused(fault: ScriptFault) -> SimEnd
     }
 }
 
-// Runs the events that the lines are, for the service that the header names.
-fn simulate_lines<S: Service, W: Sink>(
+// Runs the script that the bytes are, for the service that its header names.
+fn simulate_script<S: Service, W: Sink>(
     alloc: Global,
-    header: Header,
-    lines: &[u8],
+    header: &Header,
+    bytes: &[u8],
     out: &mut W,
 ) -> SimEnd
-    requires set_up { IsSetUp header.config }
-    requires short { length lines.now ≤ 8388608 }
+    requires header { HasHeader header.now bytes.now }
     requires plain { (op : S.Op) → IsPlain (S.meaning.kind op) }
-    ensures meant { (bytes : List ℕ) → bytes ≡ line_of (header_text header) ++ lines.now → length bytes ≤ 8388608 →
-        Means S.meaning bytes (W.held out.old) (W.held out.new) result }
+    ensures meant { Means S.meaning bytes.now (W.held out.old) (W.held out.new) result }
     ensures read { result ≢ SimEnd.ReadFault }
     ensures script { (line : ℕ) (cause : Cause) → result ≡ SimEnd.Script line cause → out.new ≡ out.old }
     ensures write { result ≡ SimEnd.WriteFault → Rose (W.faults out.old) (W.faults out.new) }
     ensures later { W.faults out.old ≤ W.faults out.new }
 {
-    runs_are_legal::<S>();
-    match read_events::<S>(alloc, header.config, lines) {
-        Ok(events) => match write_history::<S, W>(alloc, &header, events.as_slice(), out) {
+    what_is_refused_means_nothing::<S>();
+    match read_script::<S>(alloc, bytes) {
+        Ok(events) => match write_history::<S, W>(alloc, header, events.as_slice(), out) {
             Ok(()) => SimEnd::Ok,
             Err(RunFault::Write) => SimEnd::WriteFault,
             Err(RunFault::NoMemory) => SimEnd::NoMemory,
         },
-        Err(line_fault) => refused(line_fault),
+        Err(fault) => refused(fault),
     }
 }
 
@@ -144,22 +147,33 @@ fn write_history<S: Service, W: Sink>(
 ) -> Result<(), RunFault>
     requires set_up { IsSetUp header.now.config }
     requires fit { All (Fits S.meaning header.now.config) events.now }
-    ensures whole { OnOk result (HasRendered S.meaning header.now events.now (W.held out.old) (W.held out.new) []) }
-    ensures part { HasRenderedPart S.meaning header.now events.now (W.held out.old) (W.held out.new) }
+    requires plain { (op : S.Op) → IsPlain (S.meaning.kind op) }
+    ensures whole { OnOk result (HasPrinted S.meaning header.now events.now (W.held out.old) (W.held out.new) []) }
+    ensures part { HasBegun S.meaning header.now events.now (W.held out.old) (W.held out.new) }
     ensures write { result ≡ Err RunFault.Write → Rose (W.faults out.old) (W.faults out.new) }
     ensures later { W.faults out.old ≤ W.faults out.new }
 {
     let mut world = World::<S>::new(alloc, header.config)?;
     let mut text = Text::new(alloc);
     render_header(header, &mut text)?;
-    for (at, event) in events.iter().enumerate() {
-        let outcomes = world.step(event)?;
-        let number = at as u64 + 1;
-        render_step::<S>(header.config, number, event, outcomes.as_slice(), &mut text)?;
+    for event in events {
+        let _lines = world.step(event)?;
+        render_last(&world, &mut text)?;
         write_full(&mut text, out)?;
     }
     write_whole(out, text.as_slice())?;
     Ok(())
+}
+
+// Adds the text of the world's last step.
+fn render_last<S: Service>(world: &World<S>, text: &mut Text) -> Result<(), NoMemory>
+    ensures { (steps : List (Step S.Op)) (step : Step S.Op) → world.now.steps ≡ steps ++ step ∷ [] → OnOk result (text.new ≡ text.old ++ step_text S.meaning world.now.config (1 + length steps) step) }
+{
+    let steps = world.history().as_slice();
+    match steps.last() {
+        Some(step) => render_step::<S>(world.config(), steps.len() as u64, step, text),
+        None => Ok(()),
+    }
 }
 
 // Writes the gathered text, if it is enough for a piece.
