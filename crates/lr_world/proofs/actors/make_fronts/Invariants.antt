@@ -1,7 +1,7 @@
 use Rattle.std.proofs.Common.{◌≡◌, vec_len}
 use Rattle.lr_world.specs.Posts.{AllFronts}
 use Rattle.lr_graph.specs.Runs.{first_fronts}
-use Rattle.lr_world.proofs.world.make_fronts.Given as goal
+use Rattle.lr_world.proofs.actors.make_fronts.Given as goal
 
 -- there is one for each client so far
 abbrev pub invariant-loop-client : goal.invariant-loop-client

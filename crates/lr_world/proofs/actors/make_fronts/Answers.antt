@@ -5,7 +5,7 @@ use Rattle.lr_world.proofs.Everywhere.{each-pushed}
 use Rattle.lr_world.proofs.RunLemmas.{first_fronts-more}
 use Rattle.lr_base.specs.Fronts.{FrontState}
 use Rattle.lr_world.specs.Posts.{IsFront}
-use Rattle.lr_world.proofs.world.make_fronts.Goals as goal
+use Rattle.lr_world.proofs.actors.make_fronts.Goals as goal
 
 pub loop-client-preserved : goal.loop-client-preserved
 loop-client-preserved c = record {

@@ -1,7 +1,7 @@
 use Rattle.std.proofs.Common.{◌≡◌, vec_len}
 use Rattle.lr_base.specs.Replicas.{AllReplicas}
 use Rattle.lr_graph.specs.Runs.{first_replicas}
-use Rattle.lr_world.proofs.world.make_replicas.Given as goal
+use Rattle.lr_world.proofs.actors.make_replicas.Given as goal
 
 -- there is one for each place so far
 abbrev pub invariant-loop-me : goal.invariant-loop-me

@@ -3,7 +3,7 @@ use Rattle.std.proofs.lemmas.Grind.{common_steps}
 use Rattle.lr_world.proofs.Everywhere.{each-pushed}
 use Rattle.lr_world.proofs.RunLemmas.{first_replicas-more}
 use Rattle.lr_base.specs.Replicas.{IsReplica}
-use Rattle.lr_world.proofs.world.make_replicas.Goals as goal
+use Rattle.lr_world.proofs.actors.make_replicas.Goals as goal
 
 pub loop-me-preserved : goal.loop-me-preserved
 loop-me-preserved g c = record {
