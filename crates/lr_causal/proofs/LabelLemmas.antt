@@ -3,12 +3,6 @@ use Rattle.std.proofs.Common.{◌≡◌, ◌<◌, ◌≤◌, ℕ, zero, suc, Boo
 use Rattle.lr_base.specs.Stamps.{part, stamp_le}
 use Rattle.lr_base.specs.StampLaws.{parts-stamp_le}
 
--- a part past the end is 0
-pub part-past : (a : List ℕ) (place : ℕ) → length a ≤ place → part a place ≡ 0
-part-past [] place past = refl
-part-past (x ∷ a) zero past = absurd (omega arith)
-part-past (x ∷ a) (suc place) past = part-past a place (omega arith)
-
 -- the order holds where each part up to the end is at most its counterpart
 pub stamp_le-within : (a b : List ℕ) → ((place : ℕ) → place < length a → part a place ≤ part b place) → stamp_le a b ≡ true
 stamp_le-within [] b each = refl

@@ -1,4 +1,7 @@
 mod Facts
+mod Kept
 mod LabelLemmas
+mod Points
+mod Received
 mod StampRows
 mod Tables

@@ -1,5 +1,5 @@
 //! Which calls were executed, and where.
-ghost use Rattle.std.specs.Prelude.{◌≡◌, [], map, IfOk};
+ghost use Rattle.std.specs.Prelude.{◌≡◌, [], length, map, take, IfOk};
 ghost use Rattle.std.specs.Option.{option_copied};
 ghost use Rattle.lr_base.specs.Rules.{known_of};
 
@@ -39,6 +39,20 @@ impl CallTable {
         ensures { option_copied result ≡ known_of self.now cid }
     {
         self.known.get(&cid)
+    }
+
+    /// How many calls were executed.
+    pub fn len(&self) -> usize
+        ensures { result ≡ length self.now }
+    {
+        self.known.len()
+    }
+
+    /// Forgets the calls behind the first so many. It takes no memory.
+    pub fn cut(&mut self, most: usize)
+        ensures { self.new ≡ take most self.old }
+    {
+        self.known.truncate(most);
     }
 
     /// A table equal to this one.

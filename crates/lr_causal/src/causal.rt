@@ -3,13 +3,14 @@ ghost use Rattle.std.specs.Prelude.{◌≡◌, ◌+◌, ◌<◌, ◌≤◌, get_
 ghost use Rattle.lr_base.specs.Config.{IsValid};
 ghost use Rattle.lr_base.specs.Stamps.{join};
 ghost use Rattle.lr_base.specs.Logged.{AllLogged, AllKnown};
-ghost use Rattle.lr_causal.specs.Causal.{AllStamps};
+ghost use Rattle.lr_causal.specs.Causal.{AllAcksReceived, AllReceived, AllStamps};
 
-use crate::applying::apply_logged;
+use crate::applying::apply_copy;
 use crate::calls::CallTable;
 use crate::gossip::{copy_updates, new_acks, new_updates};
 use crate::labels::is_applied;
 use crate::lateness::late;
+use crate::savepoint::{Savepoint, put_back};
 use lr_base::lr_service::{Operation, Service};
 use lr_base::{
     Call, Cid, Config, Fresh, Gossip, Known, LogUpdate, NoMemory, Rows, Spot, Stamp, Text,
@@ -17,6 +18,7 @@ use lr_base::{
 use lr_log::Log;
 use lr_value::Value;
 use std::alloc::Global;
+use std::mem;
 
 /// The state of a replica that causal operations use.
 #[derive(Drop)]
@@ -42,6 +44,8 @@ pub struct Causal<S: Service> {
     ghost order_parts: { length order_ts ≡ config.replicas + 1 },
     ghost imm_parts: { length imm_ts ≡ config.replicas + 1 },
     ghost logged: { AllLogged S.Op.kind_of (config.replicas + 1) log.updates },
+    ghost updates_received: { AllReceived rep_ts log.updates },
+    ghost acks_received: { AllAcksReceived rep_ts log.acks },
     ghost known: { AllKnown (config.replicas + 1) calls },
     ghost rows: { length table.items ≡ config.replicas },
     ghost row_parts: { AllStamps (config.replicas + 1) table.items },
@@ -50,9 +54,10 @@ pub struct Causal<S: Service> {
 impl<S: Service> Causal<S> {
     ghost use Rattle.std.specs.Prelude.{◌≡◌, ◌+◌, ◌<◌, ◌^◌, find, length, IfSome, IfOk, OnOk, OnErr};
     ghost use Rattle.lr_causal.specs.Causal.{AgainHasParts, IsGossip};
+    ghost use Rattle.lr_causal.specs.Savepoint.{HasShapeOf, IsPointOf, Saved};
     ghost use Rattle.lr_base.specs.Config.{IsValid};
     ghost use Rattle.lr_base.specs.Kinds.{IsQuery, IsUpdate};
-    ghost use Rattle.lr_base.specs.Rules.{accepted, answer_of, applied, pruned, first_state, fresh_of, gossip_of, gossip_taken, held_more, known_of, new_count, same_cid, stamp_of, taken_before, update_of_call};
+    ghost use Rattle.lr_base.specs.Rules.{CausalState, accepted, answer_of, applied, pruned, first_state, fresh_of, gossip_of, gossip_taken, held_more, known_of, new_count, same_cid, stamp_of, taken_before, update_of_call};
     ghost use Rattle.lr_base.specs.Stamps.{part};
     ghost use Rattle.lr_base.specs.Steps.{still_held};
     ghost use Rattle.lr_causal.specs.State.{config_of, me_of, state_of};
@@ -259,6 +264,7 @@ impl<S: Service> Causal<S> {
         ensures parts { IfOk result (λ taken. length taken.1 ≡ (config_of self.old).replicas + 1) }
         ensures stamp { IfOk result (λ taken. taken.1 ≡ stamp_of (update_of_call (me_of self.old) (state_of self.old) call.now)) }
         ensures err { OnErr result (state_of self.new ≡ state_of self.old) }
+        ensures point { (p : Saved S) (before : CausalState S S.Op) → IsPointOf p (state_of self.old) before → IsPointOf p (state_of self.new) before }
         ensures config { config_of self.new ≡ config_of self.old }
         ensures me { me_of self.new ≡ me_of self.old }
     {
@@ -305,6 +311,7 @@ impl<S: Service> Causal<S> {
         ensures count { IfOk result (λ count. count ≡ new_count (state_of self.old) gossip.now) }
         ensures ok { OnOk result (state_of self.new ≡ gossip_taken from (state_of self.old) gossip.now) }
         ensures err { OnErr result (state_of self.new ≡ state_of self.old) }
+        ensures point { (p : Saved S) (before : CausalState S S.Op) → IsPointOf p (state_of self.old) before → IsPointOf p (state_of self.new) before }
         ensures config { config_of self.new ≡ config_of self.old }
         ensures me { me_of self.new ≡ me_of self.old }
     {
@@ -326,11 +333,70 @@ impl<S: Service> Causal<S> {
         ensures config { config_of self.new ≡ config_of self.old }
         ensures me { me_of self.new ≡ me_of self.old }
     {
-        apply_logged(self.log.updates(), &mut self.value, &mut self.calls)?;
+        let mut point = self.save()?;
+        self.apply(&mut point)?;
+        self.prune();
+        Ok(())
+    }
+
+    /// What is needed to undo the steps that follow.
+    pub fn save(&self) -> Result<Savepoint<S>, NoMemory>
+        ensures { IfOk result (λ p. IsPointOf p (state_of self.now) (state_of self.now)) }
+    {
+        let table = copy_table(self.table.as_slice(), self.log.allocator())?;
+        Ok(Savepoint {
+            rep_ts: self.rep_ts.copy(),
+            top: self.top,
+            table,
+            calls: self.calls.len(),
+            held: self.held.len(),
+            applied: None,
+        })
+    }
+
+    /// Applies all that is ready. Where something is, the value of before goes into the savepoint, unless it has one already; else it takes no memory.
+    pub fn apply(&mut self, point: &mut Savepoint<S>) -> Result<(), NoMemory>
+        ensures ok { OnOk result (state_of self.new ≡ applied S.meaning (state_of self.old)) }
+        ensures err { OnErr result (state_of self.new ≡ state_of self.old) }
+        ensures err_point { OnErr result (point.new ≡ point.old) }
+        ensures point { (before : CausalState S S.Op) → IsPointOf point.old (state_of self.old) before → IsPointOf point.new (state_of self.new) before }
+        ensures config { config_of self.new ≡ config_of self.old }
+        ensures me { me_of self.new ≡ me_of self.old }
+    {
+        if self.value.is_settled(self.log.updates()) {
+            return Ok(());
+        }
+        let value = apply_copy(self.log.updates(), &self.value, &mut self.calls)?;
+        let before = mem::replace(&mut self.value, value);
+        point.keep(before);
+        Ok(())
+    }
+
+    /// Drops what is known everywhere. It takes no memory. No savepoint can undo it.
+    pub fn prune(&mut self)
+        ensures state { state_of self.new ≡ pruned (config_of self.old).replicas (state_of self.old) }
+        ensures config { config_of self.new ≡ config_of self.old }
+        ensures me { me_of self.new ≡ me_of self.old }
+    {
         if self.config.replicas == 1 {
             self.log.clear_updates();
         }
-        Ok(())
+    }
+
+    /// Undoes what was done since the savepoint was made. It takes no memory.
+    pub fn restore(&mut self, point: Savepoint<S>)
+        requires { HasShapeOf point (state_of self.old) }
+        ensures state { (before : CausalState S S.Op) → IsPointOf point (state_of self.old) before → state_of self.new ≡ before }
+        ensures config { config_of self.new ≡ config_of self.old }
+        ensures me { me_of self.new ≡ me_of self.old }
+    {
+        self.log.drop_new(&point.rep_ts);
+        self.calls.cut(point.calls);
+        self.held.truncate(point.held);
+        put_back(&mut self.value, point.applied);
+        self.rep_ts = point.rep_ts;
+        self.top = point.top;
+        self.table = point.table;
     }
 
     /// What a query with this label is answered, or nothing while something of its label isn't applied.
@@ -346,6 +412,7 @@ impl<S: Service> Causal<S> {
     pub fn hold(&mut self, call: &Call<S::Op>) -> Result<(), NoMemory>
         ensures ok { OnOk result (state_of self.new ≡ held_more (state_of self.old) call.now) }
         ensures err { OnErr result (state_of self.new ≡ state_of self.old) }
+        ensures point { (p : Saved S) (before : CausalState S S.Op) → IsPointOf p (state_of self.old) before → IsPointOf p (state_of self.new) before }
         ensures config { config_of self.new ≡ config_of self.old }
         ensures me { me_of self.new ≡ me_of self.old }
     {

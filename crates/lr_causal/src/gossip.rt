@@ -1,19 +1,12 @@
 //! Gossip among replicas: what is told, and what of it is new.
 ghost use Rattle.std.specs.Prelude.{◌≡◌, IfOk};
-ghost use Rattle.lr_base.specs.Rules.{is_new as is_new_at, new_acks as new_acks_of, new_updates as new_updates_of};
+ghost use Rattle.lr_base.specs.Rules.{new_acks as new_acks_of, new_updates as new_updates_of};
 ghost use Rattle.lr_value.specs.Waiting.{behind};
 
-use crate::labels::part_or_zero;
 use lr_base::lr_service::Operation;
-use lr_base::{LogAck, LogUpdate, NoMemory, Rows, Spot, Stamp};
+use lr_base::{LogAck, LogUpdate, NoMemory, Rows, Stamp};
+use lr_log::is_new;
 use std::alloc::Global;
-
-// Whether an item at this spot is new where so many items were received of each place.
-fn is_new(rep_ts: &Stamp, spot: Spot) -> bool
-    ensures { result ≡ is_new_at rep_ts.now spot }
-{
-    part_or_zero(rep_ts, spot.place) < spot.number
-}
 
 /// The updates that are new, in their order.
 pub fn new_updates<'a, O: Drop>(

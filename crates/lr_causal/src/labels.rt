@@ -1,8 +1,9 @@
 //! Labels against stamps.
 ghost use Rattle.std.specs.Prelude.{◌≡◌};
-ghost use Rattle.lr_base.specs.Stamps.{part, stamp_le};
+ghost use Rattle.lr_base.specs.Stamps.{stamp_le};
 
 use lr_base::Stamp;
+use lr_log::part_or_zero;
 
 /// Whether all that a label names is applied to a value with this stamp.
 pub fn is_applied(label: &Stamp, val_ts: &Stamp) -> bool
@@ -14,14 +15,4 @@ pub fn is_applied(label: &Stamp, val_ts: &Stamp) -> bool
         }
     }
     true
-}
-
-/// The part at a place, where one past the end is 0.
-pub fn part_or_zero(stamp: &Stamp, place: u8) -> u64
-    ensures { result ≡ part stamp.now place }
-{
-    if place < stamp.parts() {
-        return stamp.part(place);
-    }
-    0
 }

@@ -7,10 +7,12 @@ mod causal;
 mod gossip;
 mod labels;
 mod lateness;
+mod savepoint;
 
 pub use calls::CallTable;
 pub use causal::Causal;
 pub use lateness::late;
+pub use savepoint::Savepoint;
 
 #[cfg(test)]
 mod tests;

@@ -2,8 +2,10 @@
 #![tactic(auto)]
 
 mod log;
+mod received;
 
 pub use log::{LOG_ROOM, Log};
+pub use received::{is_new, part_or_zero};
 
 #[cfg(test)]
 mod tests;

@@ -1,12 +1,13 @@
 //! What a replica received and keeps: updates and acknowledgements.
-ghost use Rattle.std.specs.Prelude.{◌≡◌, ◌↔◌, ◌<◌, ◌≤◌, ◌+◌, [], length, find, map, position, IsTrue, IfOk, OnOk, OnErr};
+ghost use Rattle.std.specs.Prelude.{◌≡◌, ◌↔◌, ◌<◌, ◌≤◌, ◌+◌, [], length, filter, find, map, not, position, IsTrue, IfOk, OnOk, OnErr};
 ghost use Rattle.std.specs.Option.{option_map, option_copied};
 ghost use Rattle.std.specs.List.{position_or_len};
-ghost use Rattle.lr_base.specs.Rules.{put_ack, put_acks as all_acks_put, put_update, put_updates as all_updates_put, same_cid, is_before as spot_is_before};
+ghost use Rattle.lr_base.specs.Rules.{is_new as is_new_at, put_ack, put_acks as all_acks_put, put_update, put_updates as all_updates_put, same_cid, is_before as spot_is_before};
 ghost use Rattle.lr_log.specs.Items.{Items, item_count};
 
+use crate::received::is_new;
 use lr_base::lr_service::Operation;
-use lr_base::{Cid, LogAck, LogUpdate, NoMemory, Spot};
+use lr_base::{Cid, LogAck, LogUpdate, NoMemory, Spot, Stamp};
 use std::alloc::Global;
 use std::marker::Model;
 
@@ -125,6 +126,15 @@ impl<O: Drop> Log<O> {
         ensures { self.new ≡ record self.old { updates = [] } }
     {
         self.updates.clear();
+    }
+
+    /// Drops the items that are new where so many were received of each place. It takes no memory.
+    pub fn drop_new(&mut self, rep_ts: &Stamp)
+        ensures updates { self.new.updates ≡ filter (λ u. not (is_new_at rep_ts.now u.spot)) self.old.updates }
+        ensures acks { self.new.acks ≡ filter (λ a. not (is_new_at rep_ts.now a.spot)) self.old.acks }
+    {
+        self.updates.retain(|update| !is_new(rep_ts, update.spot));
+        self.acks.retain(|ack| !is_new(rep_ts, ack.spot));
     }
 }
 

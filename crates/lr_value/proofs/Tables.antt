@@ -1,5 +1,7 @@
 -- Tables of executed calls.
-use Rattle.std.proofs.Common.{◌≡◌, Bool, true, false, List, [], ◌∷◌, ◌++◌, length, Option, Some, None, is_some, refl, subst, ℕ}
+use Rattle.std.proofs.Common.{◌≡◌, ◌≤◌, ◌∙◌, Bool, true, false, List, [], ◌∷◌, ◌++◌, ap, arith, length, Option, Some, None, is_some, refl, subst, sym, take, ℕ}
+use Rattle.std.proofs.Math.Seq.{take-take}
+use Rattle.std.proofs.lemmas.List.{length-take}
 use Rattle.std.specs.Prelude.{find}
 use Rattle.std.specs.Borrow.{Bor}
 use Rattle.std.specs.Option.{ForSome, option_copied}
@@ -38,3 +40,12 @@ found_known (e ∷ entries) cid = go (same_cid cid e.0) refl (found_known entrie
 pub some-copied : {A : Type 0} (found : Option (Bor A)) → is_some (option_copied found) ≡ is_some found
 some-copied None = refl
 some-copied (Some found) = refl
+
+-- a list that begins with another has as many elements at least
+within-front : {X : Type 0} (front all : List X) → take (length front) all ≡ front → length front ≤ length all
+within-front front all begins = let long = ap length begins in let most = length-take (length front) all in omega arith
+
+-- a list that begins with one that begins with another begins with that one
+pub front-trans : {X : Type 0} (first second third : List X) → take (length first) second ≡ first → take (length second) third ≡ second → take (length first) third ≡ first
+front-trans first second third begins goes =
+    sym (take-take (length first) (length second) third (within-front first second begins)) ∙ ap (take (length first)) goes ∙ begins

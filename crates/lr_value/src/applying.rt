@@ -1,5 +1,5 @@
 //! Applying logged updates to a value, each call once.
-ghost use Rattle.std.specs.Prelude.{◌≡◌, ◌↔◌, ◌&&◌, ◌<◌, ◌≤◌, ◌++◌, ◌∷◌, [], None, length, not, IsNone, IsTrue, IfSome, IfOk, OnOk, OnErr};
+ghost use Rattle.std.specs.Prelude.{◌≡◌, ◌↔◌, ◌&&◌, ◌<◌, ◌≤◌, ◌++◌, ◌∷◌, [], None, length, not, take, IsNone, IsTrue, IfSome, IfOk, OnOk, OnErr};
 ghost use Rattle.lr_base.specs.Kinds.{IsUpdate};
 ghost use Rattle.lr_base.specs.Logged.{AllFit, Fits, AllKnown, AllLogged, IsLogged};
 ghost use Rattle.lr_base.specs.Rules.{apply_one, apply_ready as rule, is_covered, known_of, stamp_of, take_ready, waiting as waiting_of};
@@ -47,6 +47,7 @@ fn execute<S: Service, E: Executed>(
 ) -> Result<(), NoMemory>
     requires logged { IsLogged S.Op.kind_of (length value.old.val_ts) update.now }
     ensures ok { OnOk result (progress value.new (E.known calls.new) ≡ apply_one S.meaning (progress value.old (E.known calls.old)) update.now) }
+    ensures grown { take (length (E.known calls.old)) (E.known calls.new) ≡ E.known calls.old }
     ensures err_value { OnErr result (value.new ≡ value.old) }
     ensures err_calls { OnErr result (E.known calls.new ≡ E.known calls.old) }
     ensures parts { length value.new.val_ts ≡ length value.old.val_ts }
@@ -144,6 +145,7 @@ fn apply_all<S: Service, E: Executed>(
 ) -> Result<(), NoMemory>
     requires { AllLogged S.Op.kind_of (length value.old.val_ts) (behind waiting.items) }
     ensures ok { OnOk result (progress value.new (E.known calls.new) ≡ rule S.meaning (length waiting.entry.items) (behind waiting.entry.items) (progress value.old (E.known calls.old))) }
+    ensures grown { take (length (E.known calls.old)) (E.known calls.new) ≡ E.known calls.old }
     ensures parts { length value.new.val_ts ≡ length value.old.val_ts }
     ensures known { AllKnown (length value.old.val_ts) (E.known calls.old) → AllKnown (length value.old.val_ts) (E.known calls.new) }
 {
@@ -162,6 +164,7 @@ fn apply_only<S: Service, E: Executed>(
 ) -> Result<(), NoMemory>
     requires { IsLogged S.Op.kind_of (length value.old.val_ts) update.now }
     ensures ok { OnOk result (progress value.new (E.known calls.new) ≡ rule S.meaning 1 (update.now ∷ []) (progress value.old (E.known calls.old))) }
+    ensures grown { take (length (E.known calls.old)) (E.known calls.new) ≡ E.known calls.old }
     ensures err_value { OnErr result (value.new ≡ value.old) }
     ensures err_calls { OnErr result (E.known calls.new ≡ E.known calls.old) }
     ensures parts { length value.new.val_ts ≡ length value.old.val_ts }
@@ -184,6 +187,7 @@ pub fn apply_logged<S: Service, E: Executed>(
     ensures ok { let todo = waiting_of value.old.val_ts updates.now in OnOk result (progress value.new (E.known calls.new) ≡ rule S.meaning (length todo) todo (progress value.old (E.known calls.old))) }
     ensures err_value { OnErr result (length (waiting_of value.old.val_ts updates.now) ≤ 1 → value.new ≡ value.old) }
     ensures err_calls { OnErr result (length (waiting_of value.old.val_ts updates.now) ≤ 1 → E.known calls.new ≡ E.known calls.old) }
+    ensures grown { take (length (E.known calls.old)) (E.known calls.new) ≡ E.known calls.old }
     ensures parts { length value.new.val_ts ≡ length value.old.val_ts }
     ensures known { AllKnown (length value.old.val_ts) (E.known calls.old) → AllKnown (length value.old.val_ts) (E.known calls.new) }
 {

@@ -1,5 +1,5 @@
 //! The service's value, with the stamp of what was applied to it.
-ghost use Rattle.std.specs.Prelude.{◌≡◌, ◌≤◌, ◌↔◌, List, length, replicate, IsTrue, IfOk, OnOk, OnErr};
+ghost use Rattle.std.specs.Prelude.{◌≡◌, ◌≤◌, ◌↔◌, List, length, replicate, take, IsTrue, IfOk, OnOk, OnErr};
 ghost use Rattle.lr_base.specs.declared.messages.Known.{Known};
 ghost use Rattle.lr_base.specs.declared.names.Cid.{Cid};
 ghost use Rattle.lr_base.specs.Kinds.{IsQuery, IsUpdate};
@@ -105,7 +105,7 @@ impl<S: Service> Value<S> {
 
     /// Applies the logged updates that are ready, each call once: of those that wait, the first whose causes are applied comes first.
     /// It ends where none that isn't applied has its causes applied.
-    /// Where more than one waits, nothing is promised of value and table after want of memory.
+    /// Where more than one waits, after want of memory nothing is promised of the value, and of the table only that no call left it.
     pub fn apply_ready<E: Executed>(
         &mut self,
         updates: &[LogUpdate<S::Op>],
@@ -116,6 +116,7 @@ impl<S: Service> Value<S> {
         ensures ended { OnOk result (NoneReady self.new.val_ts updates.now) }
         ensures err_value { OnErr result (length (waiting self.old.val_ts updates.now) ≤ 1 → self.new ≡ self.old) }
         ensures err_calls { OnErr result (length (waiting self.old.val_ts updates.now) ≤ 1 → E.known calls.new ≡ E.known calls.old) }
+        ensures grown { take (length (E.known calls.old)) (E.known calls.new) ≡ E.known calls.old }
         ensures parts { length self.new.val_ts ≡ length self.old.val_ts }
         ensures known { AllKnown (length self.old.val_ts) (E.known calls.old) → AllKnown (length self.old.val_ts) (E.known calls.new) }
     {

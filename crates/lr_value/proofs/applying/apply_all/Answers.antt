@@ -4,6 +4,7 @@ use Rattle.lr_base.specs.Logged.{AllKnown, IsLogged}
 use Rattle.lr_value.specs.Waiting.{behind, TakesAt}
 use Rattle.lr_value.proofs.Facts.{AllFit-logged, AllLogged-behind}
 use Rattle.lr_value.proofs.Ready.{apply_ready-step, behind-read, TakesAt-same}
+use Rattle.lr_value.proofs.Tables.{front-trans}
 use Rattle.lr_value.proofs.applying.apply_all.Goals as goal
 
 pub first_ready-requires : goal.first_ready-requires
@@ -29,6 +30,7 @@ loop-at-preserved g c =
     let step = apply_ready-step g.S.Service.meaning items c.in-Some.at c.remove-update.result p within c.remove-update.ensures.value takes in
     record {
       same = rw (c.remove-update.ensures.items, c.in_ok-execute.ensures.ok) (sym step ∙ old.same);
+      grown = front-trans (g.E.Executed.known c.args.calls.now) (g.E.Executed.known c.loop-at.calls) (g.E.Executed.known c.execute.new.calls) old.grown c.in_ok-execute.ensures.grown;
       parts = c.in_ok-execute.ensures.parts ∙ old.parts;
       logged = AllLogged-behind g.S.Op.Operation.kind_of _ items _ c.in-Some.at c.remove-update.ensures.items old.logged;
       known = λ first.
@@ -36,3 +38,7 @@ loop-at-preserved g c =
           let after : AllKnown (length c.loop-at.value.val_ts) (g.E.Executed.known c.execute.new.calls) = c.in_ok-execute.ensures.known before in
           rw (← old.parts) after;
     }
+
+pub returns-in_err-execute-clause-grown : goal.returns-in_err-execute-clause-grown
+returns-in_err-execute-clause-grown g c =
+    front-trans (g.E.Executed.known c.args.calls.now) (g.E.Executed.known c.loop-at.calls) (g.E.Executed.known c.execute.new.calls) c.loop-at.invariant.grown c.in_err-execute.ensures.grown

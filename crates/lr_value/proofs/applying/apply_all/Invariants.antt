@@ -1,4 +1,4 @@
-use Rattle.std.proofs.Common.{◌≡◌, length, vec_len}
+use Rattle.std.proofs.Common.{◌≡◌, length, take, vec_len}
 use Rattle.lr_base.specs.Rules.{apply_ready}
 use Rattle.lr_value.specs.Applied.{progress}
 use Rattle.lr_base.specs.Logged.{AllKnown, AllLogged}
@@ -9,6 +9,7 @@ use Rattle.lr_value.proofs.applying.apply_all.Given as goal
 abbrev pub invariant-loop-at : goal.invariant-loop-at
 invariant-loop-at g l = record {
   same : apply_ready g.S.Service.meaning (length l.waiting.items) (behind l.waiting.items) (progress l.value (g.E.Executed.known l.calls)) ≡ apply_ready g.S.Service.meaning (length l.initial.waiting.items) (behind l.initial.waiting.items) (progress l.initial.value (g.E.Executed.known l.initial.calls));
+  grown : take (length (g.E.Executed.known l.initial.calls)) (g.E.Executed.known l.calls) ≡ g.E.Executed.known l.initial.calls;
   parts : length l.value.val_ts ≡ length l.initial.value.val_ts;
   logged : AllLogged g.S.Op.Operation.kind_of (length l.initial.value.val_ts) (behind l.waiting.items);
   known : AllKnown (length l.initial.value.val_ts) (g.E.Executed.known l.initial.calls) → AllKnown (length l.initial.value.val_ts) (g.E.Executed.known l.calls);

@@ -1,6 +1,11 @@
-use Rattle.std.proofs.Common.{◌≡◌, ◌<◌, ◌+◌, ◌∙◌, ap, length, arith}
+use Rattle.std.proofs.Common.{◌≡◌, ◌<◌, ◌+◌, ◌∙◌, ap, length, refl, arith}
 use Rattle.lr_base.specs.Kinds.{IsUpdate}
+use Rattle.lr_base.specs.Rules.{is_new}
+use Rattle.lr_log.specs.Items.{Items}
+use Rattle.lr_causal.specs.State.{state_of}
 use Rattle.lr_causal.proofs.Facts.{AllLogged-more, AllLogged-same}
+use Rattle.lr_causal.proofs.Points.{point-logged}
+use Rattle.lr_causal.proofs.Received.{AllAcksReceived-along, AllAcksReceived-next, AllReceived-along, AllReceived-next}
 use Rattle.lr_causal.proofs.causal.Causal.accept.Goals as goal
 
 pub invariant_of-self-2-clause-logged : goal.invariant_of-self-2-clause-logged
@@ -15,3 +20,21 @@ invariant_of-self-2-clause-logged g c =
 
 pub invariant_of-self-in_default-clause-logged : goal.invariant_of-self-in_default-clause-logged
 invariant_of-self-in_default-clause-logged g c = AllLogged-same g.S.Op.Operation.kind_of _ c.args.self.now.log c.add_update.new.self c.in_default.ensures.err c.args.self.now.logged
+
+pub invariant_of-self-2-clause-updates_received : goal.invariant_of-self-2-clause-updates_received
+invariant_of-self-2-clause-updates_received g c =
+    AllReceived-next c.args.self.now.rep_ts c.set_part.new.self _ c.args.self.now.log c.add_update.new.self c.set_part.ensures.set (omega arith) c.in-Ok.ensures.ok c.args.self.now.updates_received
+
+pub invariant_of-self-2-clause-acks_received : goal.invariant_of-self-2-clause-acks_received
+invariant_of-self-2-clause-acks_received g c =
+    AllAcksReceived-next c.args.self.now.rep_ts c.set_part.new.self _ _ c.args.self.now.log.acks _ c.set_part.ensures.set (omega arith) (ap (λ (log : Items _). log.acks) c.in-Ok.ensures.ok) c.args.self.now.acks_received
+
+pub invariant_of-self-in_default-clause-updates_received : goal.invariant_of-self-in_default-clause-updates_received
+invariant_of-self-in_default-clause-updates_received g c = AllReceived-along _ _ c.args.self.now.log.updates c.add_update.new.self.updates refl (ap (λ (log : Items _). log.updates) c.in_default.ensures.err) c.args.self.now.updates_received
+
+pub invariant_of-self-in_default-clause-acks_received : goal.invariant_of-self-in_default-clause-acks_received
+invariant_of-self-in_default-clause-acks_received g c = AllAcksReceived-along _ _ c.args.self.now.log.acks c.add_update.new.self.acks refl (ap (λ (log : Items _). log.acks) c.in_default.ensures.err) c.args.self.now.acks_received
+
+pub returns-clause-point : goal.returns-clause-point
+returns-clause-point g c p before point =
+    point-logged p _ (state_of c.args.self.now) before c.set_part.new.self c.add_update.new.self (omega arith) (omega arith) c.set_part.ensures.set c.in-Ok.ensures.ok point

@@ -1,6 +1,7 @@
 use Rattle.std.proofs.Common.{◌∙◌, ap, refl}
 use Rattle.lr_log.specs.Items.{Items}
 use Rattle.lr_causal.proofs.Facts.{AllLogged-along}
+use Rattle.lr_causal.proofs.Received.{AllAcksReceived-along, AllReceived-along}
 use Rattle.lr_causal.proofs.StampRows.{AllStamps-along}
 use Rattle.lr_causal.proofs.Tables.{AllKnown-along}
 use Rattle.lr_causal.proofs.causal.Causal.copy.Goals as goal
@@ -15,3 +16,11 @@ invariant_of-result-clause-known g c = AllKnown-along _ c.args.self.now.calls c.
 pub invariant_of-result-clause-row_parts : goal.invariant_of-result-clause-row_parts
 invariant_of-result-clause-row_parts g c =
     AllStamps-along _ c.args.self.now.table.items c.in_ok-table.table.items (c.in_ok-table.ensures ∙ c.as_slice.ensures.value) c.args.self.now.row_parts
+
+pub invariant_of-result-clause-updates_received : goal.invariant_of-result-clause-updates_received
+invariant_of-result-clause-updates_received g c =
+    AllReceived-along c.args.self.now.rep_ts _ c.args.self.now.log.updates c.in_ok-log.log.updates c.copy-4.ensures (ap (λ (log : Items _). log.updates) c.in_ok-log.ensures) c.args.self.now.updates_received
+
+pub invariant_of-result-clause-acks_received : goal.invariant_of-result-clause-acks_received
+invariant_of-result-clause-acks_received g c =
+    AllAcksReceived-along c.args.self.now.rep_ts _ c.args.self.now.log.acks c.in_ok-log.log.acks c.copy-4.ensures (ap (λ (log : Items _). log.acks) c.in_ok-log.ensures) c.args.self.now.acks_received

@@ -1,8 +1,11 @@
-use Rattle.std.proofs.Common.{◌≡◌, ◌∙◌, ap}
-use Rattle.lr_base.specs.Rules.{new_updates}
+use Rattle.std.proofs.Common.{◌≡◌, ◌∙◌, ap, refl, rules, sym}
+use Rattle.lr_base.specs.Rules.{gossip_taken, new_acks, new_updates}
 use Rattle.lr_log.specs.Items.{Items}
 use Rattle.lr_value.specs.Waiting.{behind}
+use Rattle.lr_causal.specs.State.{state_of}
 use Rattle.lr_causal.proofs.Facts.{AllLogged-gained, AllLogged-same}
+use Rattle.lr_causal.proofs.Points.{point-same, point-taken}
+use Rattle.lr_causal.proofs.Received.{AllAcksReceived-along, AllAcksReceived-gained, AllReceived-along, AllReceived-gained}
 use Rattle.lr_causal.proofs.StampRows.{AllStamps-count}
 use Rattle.lr_causal.proofs.causal.Causal.take_gossip.Goals as goal
 
@@ -18,3 +21,27 @@ invariant_of-self-clause-logged g c = AllLogged-same g.S.Op.Operation.kind_of _ 
 
 pub invariant_of-self-2-clause-row_parts : goal.invariant_of-self-2-clause-row_parts
 invariant_of-self-2-clause-row_parts g c = AllStamps-count _ _ c.join_row.new.table.items c.requires.gossip.rep_parts c.join_row.ensures.parts
+
+pub invariant_of-self-2-clause-updates_received : goal.invariant_of-self-2-clause-updates_received
+invariant_of-self-2-clause-updates_received g c =
+    let told : behind c.as_slice-3.result.now ≡ new_updates c.args.self.now.rep_ts c.args.gossip.now.updates =
+    ap behind c.as_slice-3.ensures.value ∙ c.in_ok-updates.ensures ∙ ap (λ us. new_updates c.args.self.now.rep_ts us) c.as_slice.ensures in
+    AllReceived-gained c.args.self.now.rep_ts c.args.gossip.now.rep_ts c.join.new.self c.args.gossip.now.updates _ c.args.self.now.log.updates c.add_all.new.self.updates
+    c.join.ensures.joined told (ap (λ (log : Items _). log.updates) c.in-Ok.ensures.ok) c.requires.gossip.updates_received c.args.self.now.updates_received
+
+pub invariant_of-self-2-clause-acks_received : goal.invariant_of-self-2-clause-acks_received
+invariant_of-self-2-clause-acks_received g c =
+    AllAcksReceived-gained c.args.self.now.rep_ts c.args.gossip.now.rep_ts c.join.new.self c.args.gossip.now.acks c.as_slice-4.result.now c.args.self.now.log.acks c.add_all.new.self.acks
+    c.join.ensures.joined (c.as_slice-4.ensures.value ∙ c.in_ok-acks.ensures ∙ ap (λ as'. new_acks c.args.self.now.rep_ts as') c.as_slice-2.ensures) (ap (λ (log : Items _). log.acks) c.in-Ok.ensures.ok)
+    c.requires.gossip.acks_received c.args.self.now.acks_received
+
+pub invariant_of-self-clause-updates_received : goal.invariant_of-self-clause-updates_received
+invariant_of-self-clause-updates_received g c = AllReceived-along _ _ c.args.self.now.log.updates c.add_all.new.self.updates refl (ap (λ (log : Items _). log.updates) c.in_default.ensures.err) c.args.self.now.updates_received
+
+pub invariant_of-self-clause-acks_received : goal.invariant_of-self-clause-acks_received
+invariant_of-self-clause-acks_received g c = AllAcksReceived-along _ _ c.args.self.now.log.acks c.add_all.new.self.acks refl (ap (λ (log : Items _). log.acks) c.in_default.ensures.err) c.args.self.now.acks_received
+
+pub returns-clause-point : goal.returns-clause-point
+returns-clause-point g c p before point =
+    point-same p (gossip_taken c.args.from (state_of c.args.self.now) c.args.gossip.now) _ before (search rules)
+    (point-taken p c.args.from (state_of c.args.self.now) before c.args.gossip.now (c.requires.gossip.rep_parts ∙ sym c.args.self.now.rep_parts) point)

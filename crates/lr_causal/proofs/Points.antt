@@ -1,0 +1,126 @@
+-- A savepoint stays one of its state through the parts of a step.
+use Rattle.std.proofs.Common.{◌≡◌, ◌≤◌, ◌+◌, ◌<◌, ℕ, true, not, List, [], ◌∷◌, length, take, get_or, refl, sym, ◌∙◌, ap, Option, Some, None, arith, lt-ltb}
+use Rattle.std.specs.Prelude.{filter, set}
+use Rattle.std.specs.Option.{ForSome}
+use Rattle.std.proofs.Math.ListN.{length-set}
+use Rattle.std.proofs.Math.Seq.{take-length, take-take}
+use Rattle.std.proofs.lemmas.List.{length-take}
+use Rattle.lr_base.specs.declared.messages.Gossip.{Gossip}
+use Rattle.lr_base.specs.declared.messages.Known.{Known}
+use Rattle.lr_base.specs.declared.messages.LogAck.{LogAck}
+use Rattle.lr_base.specs.declared.messages.LogUpdate.{LogUpdate}
+use Rattle.lr_base.specs.declared.names.Cid.{Cid}
+use Rattle.lr_base.specs.Rules.{CausalState, gossip_taken, is_new, new_acks, new_updates, put_acks, put_update}
+use Rattle.lr_base.specs.Stamps.{join, part, set_part, stamp_le}
+use Rattle.lr_base.specs.StampLaws.{join-least, length-join, length-set_part, parts-stamp_le, stamp_le-refl, stamp_le-trans}
+use Rattle.lr_value.specs.Applied.{Applied}
+use Rattle.lr_causal.specs.Causal.{AllAcksReceived, AllReceived, AllStamps}
+use Rattle.lr_causal.specs.Savepoint.{HasShapeOf, IsPointOf, Saved, restored, value_before}
+use Rattle.lr_causal.proofs.Kept.{filter-none, filter-put, filter-put_acks, filter-put_all}
+use Rattle.lr_causal.proofs.Received.{Each-passes, new-earlier, set_part-above}
+use Rattle.lr_log.specs.Items.{Items, items_of}
+
+module _ {Value Op : Type 0} where
+  -- the value of a state, with its stamp
+  abbrev pub value_of : CausalState Value Op → Applied Value
+  value_of state = record { value = state.value; val_ts = state.val_ts }
+
+  -- a shape by stamps and rows that are as many
+  shape-along : (p : Saved Value) (state new : CausalState Value Op) → length new.rep_ts ≡ length state.rep_ts → length new.table ≡ length state.table → HasShapeOf p state → HasShapeOf p new
+  shape-along p state new parts rows shape = record {
+    rep_parts = shape.rep_parts ∙ sym parts;
+    rows = shape.rows ∙ sym rows;
+    row_parts = rw parts shape.row_parts;
+    val_parts = rw parts shape.val_parts;
+  }
+
+  -- a state by another name
+  pub point-same : (p : Saved Value) (state new before : CausalState Value Op) → new ≡ state → IsPointOf p state before → IsPointOf p new before
+  point-same p state new before is point = rw is point
+
+  -- a savepoint that was just made
+  pub point-saved : (rep_ts : List ℕ) (table : List (List ℕ)) (calls held : ℕ) (state : CausalState Value Op) → rep_ts ≡ state.rep_ts → table ≡ state.table → calls ≡ length state.calls → held ≡ length state.held → AllReceived state.rep_ts state.updates → AllAcksReceived state.rep_ts state.acks → AllStamps (length state.rep_ts) state.table → IsPointOf (record { rep_ts = rep_ts; top = state.top; table = table; calls = calls; held = held; applied = None }) state state
+  point-saved rep_ts table calls held state stamps rows count waiting received acks_received row_parts =
+      let updates = filter-none (λ (u : LogUpdate Op). is_new state.rep_ts u.spot) state.updates received in
+      let acks = filter-none (λ (a : LogAck). is_new state.rep_ts a.spot) state.acks acks_received in
+      rw (stamps, rows, count, waiting) record {
+        restores = rw (updates, acks, take-length state.calls, take-length state.held) refl;
+        received = stamp_le-refl state.rep_ts;
+        calls_most = omega arith;
+        held_most = omega arith;
+        shape = record {
+          rep_parts = refl;
+          rows = refl;
+          row_parts = row_parts;
+          val_parts = λ before e. let none : None ≡ Some before = e in cc;
+        };
+      }
+
+  -- the next update of a place is logged
+  pub point-logged : (p : Saved Value) (u : LogUpdate Op) (state before : CausalState Value Op) (rep_ts : List ℕ) (log : Items Op) → u.spot.place < length state.rep_ts → u.spot.number ≡ part state.rep_ts u.spot.place + 1 → rep_ts ≡ set_part state.rep_ts u.spot.place u.spot.number → log ≡ items_of (put_update u state.updates) state.acks → IsPointOf p state before → IsPointOf p (record state { rep_ts = rep_ts; updates = log.updates; acks = log.acks; top = u.spot.number }) before
+  point-logged p u state before rep_ts log within next at is point =
+      let most = parts-stamp_le p.rep_ts state.rep_ts point.received u.spot.place in
+      let new : is_new p.rep_ts u.spot ≡ true = lt-ltb (part p.rep_ts u.spot.place) u.spot.number (omega arith) in
+      rw (at, is) record {
+        restores =
+            ap (λ (updates : List (LogUpdate Op)). record (restored p state) { updates = updates }) (filter-put (λ (x : LogUpdate Op). is_new p.rep_ts x.spot) u state.updates new)
+            ∙ point.restores;
+        received = stamp_le-trans p.rep_ts state.rep_ts (set_part state.rep_ts u.spot.place u.spot.number) point.received (set_part-above state.rep_ts u.spot.place u.spot.number (omega arith));
+        calls_most = point.calls_most;
+        held_most = point.held_most;
+        shape = shape-along p state _ (length-set_part state.rep_ts u.spot.place u.spot.number within) refl point.shape;
+      }
+
+  -- gossip is taken
+  pub point-taken : (p : Saved Value) (from : ℕ) (state before : CausalState Value Op) (gossip : Gossip Op) → length gossip.rep_ts ≡ length state.rep_ts → IsPointOf p state before → IsPointOf p (gossip_taken from state gossip) before
+  point-taken p from state before gossip long point =
+      let updates =
+          filter-put_all (λ (u : LogUpdate Op). is_new p.rep_ts u.spot) (new_updates state.rep_ts gossip.updates) state.updates
+          (Each-passes (λ (u : LogUpdate Op). is_new p.rep_ts u.spot ≡ true) (λ u. is_new state.rep_ts u.spot) gossip.updates (λ u new. new-earlier p.rep_ts state.rep_ts u.spot point.received new)) in
+      let acks =
+          filter-put_acks (λ (a : LogAck). is_new p.rep_ts a.spot) (new_acks state.rep_ts gossip.acks) state.acks
+          (Each-passes (λ (a : LogAck). is_new p.rep_ts a.spot ≡ true) (λ a. is_new state.rep_ts a.spot) gossip.acks (λ a new. new-earlier p.rep_ts state.rep_ts a.spot point.received new)) in
+      record {
+        restores =
+            ap (λ (us : List (LogUpdate Op)). record (restored p state) { updates = us; acks = filter (λ a. not (is_new p.rep_ts a.spot)) (put_acks (new_acks state.rep_ts gossip.acks) state.acks) }) updates
+            ∙ ap (λ (as' : List LogAck). record (restored p state) { acks = as' }) acks
+            ∙ point.restores;
+        received = stamp_le-trans p.rep_ts state.rep_ts (join state.rep_ts gossip.rep_ts) point.received (join-least state.rep_ts gossip.rep_ts).above_first;
+        calls_most = point.calls_most;
+        held_most = point.held_most;
+        shape =
+            shape-along p state (gossip_taken from state gossip) (length-join state.rep_ts gossip.rep_ts (sym long))
+            (length-set state.table from (join (get_or state.table from []) gossip.rep_ts)) point.shape;
+      }
+
+  -- what is ready is applied: the value of before is kept, and the table of calls has grown
+  pub point-applied : (p kept : Saved Value) (state before : CausalState Value Op) (was next : Applied Value) (calls : List (Cid × Known)) → kept ≡ record p { applied = Some (value_before p.applied was) } → was ≡ value_of state → take (length state.calls) calls ≡ state.calls → length state.val_ts ≡ length state.rep_ts → IsPointOf p state before → IsPointOf kept (record state { value = next.value; val_ts = next.val_ts; calls = calls }) before
+  point-applied p kept state before was next calls keeps is grown val_parts point =
+      let long = ap length grown in
+      let most = length-take (length state.calls) calls in
+      let same : take p.calls calls ≡ take p.calls state.calls = sym (take-take p.calls (length state.calls) calls point.calls_most) ∙ ap (take p.calls) grown in
+      rw (keeps, is) record {
+        restores = ap (λ (cs : List (Cid × Known)). record (restored p state) { calls = cs }) same ∙ point.restores;
+        received = point.received;
+        calls_most = let least = point.calls_most in omega arith;
+        held_most = point.held_most;
+        shape = record {
+          rep_parts = point.shape.rep_parts;
+          rows = point.shape.rows;
+          row_parts = point.shape.row_parts;
+          val_parts = both p.applied point.shape.val_parts;
+        };
+      }
+    where
+      both : (applied : Option (Applied Value)) → ForSome applied (λ a. length a.val_ts ≡ length state.rep_ts) → ForSome (Some (value_before applied (value_of state))) (λ a. length a.val_ts ≡ length state.rep_ts)
+      both (Some a) own = own
+      both None own = λ a e. let same : value_of state ≡ a = cc in rw (← same) val_parts
+
+-- a shape by another name of the savepoint
+pub HasShapeOf-along : {Value Op : Type 0} (p same : Saved Value) (state : CausalState Value Op) → same ≡ p → HasShapeOf p state → HasShapeOf same state
+HasShapeOf-along p same state is shape = rw is shape
+
+-- the value that comes back has as many parts as both
+pub value_before-parts : {Value : Type 0} (parts : ℕ) (applied : Option (Applied Value)) (now back : Applied Value) → back ≡ value_before applied now → ForSome applied (λ a. length a.val_ts ≡ parts) → length now.val_ts ≡ parts → length back.val_ts ≡ parts
+value_before-parts parts (Some a) now back is own other = rw is (own a refl)
+value_before-parts parts None now back is own other = rw is other

@@ -1,0 +1,151 @@
+-- Which items are new at a stamp, and which were received.
+use Rattle.std.proofs.Common.{◌≡◌, ◌≤◌, ℕ, zero, suc, Bool, true, false, not, List, [], ◌∷◌, refl, sym, ◌∙◌, Some, None, subst, arith, le-leb, lt-ltb, le-ltb, ltb-true, ltb-false}
+use Rattle.std.specs.Prelude.{filter, slice_get}
+use Rattle.std.specs.Option.{ForSome}
+use Rattle.lr_base.specs.declared.messages.LogAck.{LogAck}
+use Rattle.lr_base.specs.declared.messages.LogUpdate.{LogUpdate}
+use Rattle.lr_base.specs.declared.names.Spot.{Spot}
+use Rattle.lr_base.specs.Rules.{is_before, is_new, new_acks, new_updates, put_ack, put_acks, put_update, put_updates}
+use Rattle.lr_base.specs.Stamps.{join, part, set_part, stamp_le}
+use Rattle.lr_base.specs.StampLaws.{join-least, part-set_part, parts-stamp_le, stamp_le-refl}
+use Rattle.lr_causal.specs.Causal.{AllAcksReceived, AllReceived}
+use Rattle.lr_log.specs.Items.{Items}
+
+-- something holds of each element of a list
+abbrev pub Each : {X : Type 0} → (X → Type 0) → List X → Type 0
+Each P xs = (k : ℕ) → ForSome (slice_get xs k) P
+
+module _ {X : Type 0} (P : X → Type 0) where
+  -- a list of such elements with one more in front
+  pub Each-front : (x : X) (xs : List X) → P x → Each P xs → Each P (x ∷ xs)
+  Each-front x xs own all zero = λ y e. let same : x ≡ y = cc in subst P same own
+  Each-front x xs own all (suc k) = all k
+
+  -- those that pass a test
+  pub Each-filter : (test : X → Bool) (xs : List X) → Each P xs → Each P (filter test xs)
+  Each-filter test [] all = all
+  Each-filter test (x ∷ xs) all = go (test x) refl (Each-filter test xs (λ k. all (suc k)))
+    where
+      go : (passes : Bool) → test x ≡ passes → Each P (filter test xs) → Each P (filter test (x ∷ xs))
+      go true is later = rw is (Each-front x (filter test xs) (all 0 x refl) later)
+      go false is later = rw is later
+
+  -- where each that passes a test is such an element
+  pub Each-passes : (test : X → Bool) (xs : List X) → ((x : X) → test x ≡ true → P x) → Each P (filter test xs)
+  Each-passes test [] passes = λ k x e. let none : None ≡ Some x = e in cc
+  Each-passes test (x ∷ xs) passes = go (test x) refl (Each-passes test xs passes)
+    where
+      go : (here : Bool) → test x ≡ here → Each P (filter test xs) → Each P (filter test (x ∷ xs))
+      go true is later = rw is (Each-front x (filter test xs) (passes x is) later)
+      go false is later = rw is later
+
+module _ {Op : Type 0} (P : LogUpdate Op → Type 0) where
+  -- a log of such updates with one more
+  pub Each-put : (u : LogUpdate Op) (updates : List (LogUpdate Op)) → P u → Each P updates → Each P (put_update u updates)
+  Each-put u [] own all = Each-front P u [] own all
+  Each-put u (x ∷ updates) own all = go (is_before u.spot x.spot) refl (Each-put u updates own (λ k. all (suc k)))
+    where
+      go : (before : Bool) → is_before u.spot x.spot ≡ before → Each P (put_update u updates) → Each P (put_update u (x ∷ updates))
+      go true is later = rw is (Each-front P u (x ∷ updates) own all)
+      go false is later = rw is (Each-front P x (put_update u updates) (all 0 x refl) later)
+
+  -- with more of them
+  pub Each-put_all : (more updates : List (LogUpdate Op)) → Each P more → Each P updates → Each P (put_updates more updates)
+  Each-put_all [] updates own all = all
+  Each-put_all (u ∷ more) updates own all = Each-put_all more (put_update u updates) (λ k. own (suc k)) (Each-put u updates (own 0 u refl) all)
+
+module _ (P : LogAck → Type 0) where
+  -- and of such acknowledgements
+  pub Each-put_ack : (a : LogAck) (acks : List LogAck) → P a → Each P acks → Each P (put_ack a acks)
+  Each-put_ack a [] own all = Each-front P a [] own all
+  Each-put_ack a (x ∷ acks) own all = go (is_before a.spot x.spot) refl (Each-put_ack a acks own (λ k. all (suc k)))
+    where
+      go : (before : Bool) → is_before a.spot x.spot ≡ before → Each P (put_ack a acks) → Each P (put_ack a (x ∷ acks))
+      go true is later = rw is (Each-front P a (x ∷ acks) own all)
+      go false is later = rw is (Each-front P x (put_ack a acks) (all 0 x refl) later)
+
+  pub Each-put_acks : (more acks : List LogAck) → Each P more → Each P acks → Each P (put_acks more acks)
+  Each-put_acks [] acks own all = all
+  Each-put_acks (a ∷ more) acks own all = Each-put_acks more (put_ack a acks) (λ k. own (suc k)) (Each-put_ack a acks (own 0 a refl) all)
+
+-- a stamp with a greater part is above
+pub set_part-above : (a : List ℕ) (place n : ℕ) → part a place ≤ n → stamp_le a (set_part a place n) ≡ true
+set_part-above [] place n more = refl
+set_part-above (x ∷ a) zero n more = rw (le-leb x n more) (stamp_le-refl a)
+set_part-above (x ∷ a) (suc place) n more = rw (le-leb x x (omega arith)) (set_part-above a place n more)
+
+-- what was received at a stamp was received at each above it
+pub received-later : (first later : List ℕ) (spot : Spot) → stamp_le first later ≡ true → is_new first spot ≡ false → is_new later spot ≡ false
+received-later first later spot le was =
+    let within = ltb-false (part first spot.place) spot.number was in
+    let more = parts-stamp_le first later le spot.place in
+    le-ltb (part later spot.place) spot.number (omega arith)
+
+-- what is new at a stamp is new at each below it
+pub new-earlier : (first later : List ℕ) (spot : Spot) → stamp_le first later ≡ true → is_new later spot ≡ true → is_new first spot ≡ true
+new-earlier first later spot le new =
+    let beyond = ltb-true (part later spot.place) spot.number new in
+    let more = parts-stamp_le first later le spot.place in
+    lt-ltb (part first spot.place) spot.number (omega arith)
+
+-- what doesn't leave with the items that are new isn't new
+pub stays-received : (rep_ts : List ℕ) (spot : Spot) → not (is_new rep_ts spot) ≡ true → is_new rep_ts spot ≡ false
+stays-received rep_ts spot stays = go (is_new rep_ts spot) refl
+  where
+    go : (new : Bool) → is_new rep_ts spot ≡ new → new ≡ false
+    go true is = let no : false ≡ true = rw is at stays in cc
+    go false is = refl
+
+module _ {Op : Type 0} where
+  -- the same updates at a stamp above
+  pub AllReceived-later : (first later : List ℕ) (updates same : List (LogUpdate Op)) → stamp_le first later ≡ true → same ≡ updates → AllReceived first updates → AllReceived later same
+  AllReceived-later first later updates same le is all = rw is (λ k u e. received-later first later u.spot le (all k u e))
+
+  -- the same updates at the same stamp
+  pub AllReceived-along : (rep_ts stamp : List ℕ) (updates same : List (LogUpdate Op)) → stamp ≡ rep_ts → same ≡ updates → AllReceived rep_ts updates → AllReceived stamp same
+  AllReceived-along rep_ts stamp updates same at is all = rw (at, is) all
+
+  -- a log that gained the next update of a place
+  pub AllReceived-next : (rep_ts stamp : List ℕ) (u : LogUpdate Op) (log new : Items Op) → stamp ≡ set_part rep_ts u.spot.place u.spot.number → part rep_ts u.spot.place ≤ u.spot.number → new ≡ record log { updates = put_update u log.updates } → AllReceived rep_ts log.updates → AllReceived stamp new.updates
+  AllReceived-next rep_ts stamp u log new at more is all =
+      let own : is_new (set_part rep_ts u.spot.place u.spot.number) u.spot ≡ false =
+      le-ltb (part (set_part rep_ts u.spot.place u.spot.number) u.spot.place) u.spot.number (let written = part-set_part rep_ts u.spot.place u.spot.number in omega arith) in
+      rw (at, is)
+      (Each-put (λ (x : LogUpdate Op). is_new (set_part rep_ts u.spot.place u.spot.number) x.spot ≡ false) u log.updates own
+      (AllReceived-later rep_ts (set_part rep_ts u.spot.place u.spot.number) log.updates log.updates (set_part-above rep_ts u.spot.place u.spot.number more) refl all))
+
+  -- a log that gained what is new of some
+  pub AllReceived-gained : (rep_ts told_ts stamp : List ℕ) (told new own updates : List (LogUpdate Op)) → stamp ≡ join rep_ts told_ts → new ≡ new_updates rep_ts told → updates ≡ put_updates new own → AllReceived told_ts told → AllReceived rep_ts own → AllReceived stamp updates
+  AllReceived-gained rep_ts told_ts stamp told new own updates at is gained all all_own =
+      let above = join-least rep_ts told_ts in
+      rw (at, gained, is)
+      (Each-put_all (λ (u : LogUpdate Op). is_new (join rep_ts told_ts) u.spot ≡ false) (new_updates rep_ts told) own
+      (Each-filter (λ (u : LogUpdate Op). is_new (join rep_ts told_ts) u.spot ≡ false) (λ u. is_new rep_ts u.spot) told (AllReceived-later told_ts (join rep_ts told_ts) told told above.above_second refl all))
+      (AllReceived-later rep_ts (join rep_ts told_ts) own own above.above_first refl all_own))
+
+  -- a log that lost what is new
+  pub AllReceived-stays : (rep_ts stamp : List ℕ) (updates kept : List (LogUpdate Op)) → stamp ≡ rep_ts → kept ≡ filter (λ u. not (is_new rep_ts u.spot)) updates → AllReceived stamp kept
+  AllReceived-stays rep_ts stamp updates kept at is =
+      rw (at, is) (Each-passes (λ (u : LogUpdate Op). is_new rep_ts u.spot ≡ false) (λ u. not (is_new rep_ts u.spot)) updates (λ u stays. stays-received rep_ts u.spot stays))
+
+-- and so for acknowledgements
+pub AllAcksReceived-later : (first later : List ℕ) (acks same : List LogAck) → stamp_le first later ≡ true → same ≡ acks → AllAcksReceived first acks → AllAcksReceived later same
+AllAcksReceived-later first later acks same le is all = rw is (λ k a e. received-later first later a.spot le (all k a e))
+
+pub AllAcksReceived-along : (rep_ts stamp : List ℕ) (acks same : List LogAck) → stamp ≡ rep_ts → same ≡ acks → AllAcksReceived rep_ts acks → AllAcksReceived stamp same
+AllAcksReceived-along rep_ts stamp acks same at is all = rw (at, is) all
+
+pub AllAcksReceived-next : (rep_ts stamp : List ℕ) (place n : ℕ) (acks same : List LogAck) → stamp ≡ set_part rep_ts place n → part rep_ts place ≤ n → same ≡ acks → AllAcksReceived rep_ts acks → AllAcksReceived stamp same
+AllAcksReceived-next rep_ts stamp place n acks same at more is all = rw at (AllAcksReceived-later rep_ts (set_part rep_ts place n) acks same (set_part-above rep_ts place n more) is all)
+
+pub AllAcksReceived-gained : (rep_ts told_ts stamp : List ℕ) (told new own acks : List LogAck) → stamp ≡ join rep_ts told_ts → new ≡ new_acks rep_ts told → acks ≡ put_acks new own → AllAcksReceived told_ts told → AllAcksReceived rep_ts own → AllAcksReceived stamp acks
+AllAcksReceived-gained rep_ts told_ts stamp told new own acks at is gained all all_own =
+    let above = join-least rep_ts told_ts in
+    rw (at, gained, is)
+    (Each-put_acks (λ (a : LogAck). is_new (join rep_ts told_ts) a.spot ≡ false) (new_acks rep_ts told) own
+    (Each-filter (λ (a : LogAck). is_new (join rep_ts told_ts) a.spot ≡ false) (λ a. is_new rep_ts a.spot) told (AllAcksReceived-later told_ts (join rep_ts told_ts) told told above.above_second refl all))
+    (AllAcksReceived-later rep_ts (join rep_ts told_ts) own own above.above_first refl all_own))
+
+pub AllAcksReceived-stays : (rep_ts stamp : List ℕ) (acks kept : List LogAck) → stamp ≡ rep_ts → kept ≡ filter (λ a. not (is_new rep_ts a.spot)) acks → AllAcksReceived stamp kept
+AllAcksReceived-stays rep_ts stamp acks kept at is =
+    rw (at, is) (Each-passes (λ (a : LogAck). is_new rep_ts a.spot ≡ false) (λ a. not (is_new rep_ts a.spot)) acks (λ a stays. stays-received rep_ts a.spot stays))

@@ -1,0 +1,28 @@
+use Rattle.std.proofs.Common.{◌≡◌, ◌+◌, ◌∙◌, ap, length, refl, sym}
+use Rattle.lr_causal.specs.Savepoint.{Saved}
+use Rattle.lr_causal.specs.State.{state_of}
+use Rattle.lr_causal.proofs.Facts.{AllLogged-along, AllLogged-filter}
+use Rattle.lr_causal.proofs.Received.{AllAcksReceived-stays, AllReceived-stays}
+use Rattle.lr_causal.proofs.StampRows.{AllStamps-along, AllStamps-count}
+use Rattle.lr_causal.proofs.Tables.{AllKnown-take}
+use Rattle.lr_causal.proofs.causal.Causal.restore.Goals as goal
+
+pub invariant_of-self-clause-updates_received : goal.invariant_of-self-clause-updates_received
+invariant_of-self-clause-updates_received g c =
+    AllReceived-stays c.point.inside.rep_ts _ c.args.self.now.log.updates c.drop_new.new.self.updates refl c.drop_new.ensures.updates
+
+pub invariant_of-self-clause-acks_received : goal.invariant_of-self-clause-acks_received
+invariant_of-self-clause-acks_received g c =
+    AllAcksReceived-stays c.point.inside.rep_ts _ c.args.self.now.log.acks c.drop_new.new.self.acks refl c.drop_new.ensures.acks
+
+pub invariant_of-self-clause-known : goal.invariant_of-self-clause-known
+invariant_of-self-clause-known g c = AllKnown-take _ c.point.inside.calls c.args.self.now.calls c.cut.new.self c.cut.ensures c.args.self.now.known
+
+pub invariant_of-self-clause-logged : goal.invariant_of-self-clause-logged
+invariant_of-self-clause-logged g c =
+    AllLogged-along g.S.Op.Operation.kind_of _ _ _ c.drop_new.new.self.updates c.drop_new.ensures.updates refl (AllLogged-filter g.S.Op.Operation.kind_of _ _ c.args.self.now.log.updates c.args.self.now.logged)
+
+pub invariant_of-self-clause-row_parts : goal.invariant_of-self-clause-row_parts
+invariant_of-self-clause-row_parts g c =
+    AllStamps-along _ c.args.point.table c.point.inside.table.items (ap (λ (p : Saved _). p.table) c.point.view_is)
+    (AllStamps-count _ _ c.args.point.table c.args.self.now.rep_parts c.requires.row_parts)

@@ -1,0 +1,52 @@
+-- What a replica's savepoint remembers, and the state that it gives back.
+use Rattle.std.specs.Prelude.{◌≡◌, ◌≤◌, ℕ, true, List, Option, Some, None, filter, length, not, take}
+use Rattle.std.specs.Option.{ForSome}
+use Rattle.lr_base.specs.Rules.{CausalState, is_new}
+use Rattle.lr_base.specs.Stamps.{stamp_le}
+use Rattle.lr_value.specs.Applied.{Applied}
+use Rattle.lr_causal.specs.Causal.{AllStamps}
+
+-- what a savepoint remembers of a state: what a step may overwrite, how long the table of calls and the held queries were, and the value where it was changed
+pub record Saved (Value : Type 0) : Type 0 where
+  pub rep_ts : List ℕ
+  pub top : ℕ
+  pub table : List (List ℕ)
+  pub calls : ℕ
+  pub held : ℕ
+  pub applied : Option (Applied Value)
+
+-- the value that was remembered, and else the one of now
+abbrev pub value_before : {Value : Type 0} → Option (Applied Value) → Applied Value → Applied Value
+value_before (Some before) now = before
+value_before None now = now
+
+-- the state that a savepoint gives back: items that were new since then leave, later calls and queries leave, and the value is the one before
+abbrev pub restored : {Value Op : Type 0} → Saved Value → CausalState Value Op → CausalState Value Op
+restored p state =
+    let before = value_before p.applied (record { value = state.value; val_ts = state.val_ts }) in
+    record state {
+      rep_ts = p.rep_ts;
+      val_ts = before.val_ts;
+      value = before.value;
+      updates = filter (λ u. not (is_new p.rep_ts u.spot)) state.updates;
+      acks = filter (λ a. not (is_new p.rep_ts a.spot)) state.acks;
+      calls = take p.calls state.calls;
+      table = p.table;
+      top = p.top;
+      held = take p.held state.held;
+    }
+
+-- a savepoint has as many stamps as a state, and each with as many parts
+pub record HasShapeOf {Value Op : Type 0} (p : Saved Value) (state : CausalState Value Op) : Type 0 where
+  pub rep_parts : length p.rep_ts ≡ length state.rep_ts
+  pub rows : length p.table ≡ length state.table
+  pub row_parts : AllStamps (length state.rep_ts) p.table
+  pub val_parts : ForSome p.applied (λ before. length before.val_ts ≡ length state.rep_ts)
+
+-- from this state the savepoint gives back the one before
+pub record IsPointOf {Value Op : Type 0} (p : Saved Value) (state before : CausalState Value Op) : Type 0 where
+  pub restores : restored p state ≡ before
+  pub received : stamp_le p.rep_ts state.rep_ts ≡ true
+  pub calls_most : p.calls ≤ length state.calls
+  pub held_most : p.held ≤ length state.held
+  pub shape : HasShapeOf p state
