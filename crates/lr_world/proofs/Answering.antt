@@ -1,9 +1,10 @@
 -- The end of a step: held queries that are answered, and those that stay.
-use Rattle.std.proofs.Common.{◌≡◌, ◌+◌, ℕ, zero, suc, Bool, true, false, ◌==◌, if◌then◌else◌, List, [], ◌∷◌, ◌++◌, length, refl, sym, ap, ◌∙◌, subst, Result, Ok, Err, OnOk, ◌<◌, lt-ltb, take, get_or, append_assoc}
+use Rattle.std.proofs.Common.{◌≡◌, ◌+◌, ℕ, zero, suc, Bool, true, false, ◌==◌, if◌then◌else◌, List, [], ◌∷◌, ◌++◌, length, refl, sym, ap, ◌∙◌, subst, Result, Ok, Err, OnErr, OnOk, ◌<◌, lt-ltb, take, get_or, append_assoc}
 use Rattle.std.proofs.lemmas.List.{take_more}
 use Rattle.std.specs.Prelude.{filter}
 use Rattle.lr_base.specs.Meaning.{Meaning}
-use Rattle.lr_base.specs.Rules.{CausalState, applied, pruned}
+use Rattle.lr_base.specs.Replicas.{ReplicaState}
+use Rattle.lr_base.specs.Rules.{CausalState, pruned}
 use Rattle.lr_base.specs.Stamps.{stamp_le}
 use Rattle.lr_base.specs.Steps.{answer_act, held_acts}
 use Rattle.lr_base.specs.declared.acts.Act.{Act}
@@ -16,9 +17,10 @@ use Rattle.lr_base.specs.declared.messages.Gossip.{Gossip}
 use Rattle.lr_base.specs.declared.names.Actor.TheVariants.{Client, Replica}
 use Rattle.lr_base.specs.declared.names.Cid.{Cid}
 use Rattle.lr_base.specs.declared.names.Config.{Config}
-use Rattle.lr_base.specs.Logged.{IsLogged}
 use Rattle.lr_causal.specs.Causal.{IsGossip}
-use Rattle.lr_world.proofs.Everywhere.{each-none, each-push}
+use Rattle.lr_causal.specs.Savepoint.{IsPointOf, Saved}
+use Rattle.lr_world.proofs.Calling.{shaped-plain}
+use Rattle.lr_world.proofs.Everywhere.{each-push}
 use Rattle.lr_world.specs.Asked.{AllAsked, IsAsked}
 use Rattle.lr_world.specs.Shapes.{AllFitting, IsFitting, IsShaped}
 
@@ -46,9 +48,43 @@ module _ {Op : Type 0} (kind_of : Op → Kind) (config : Config) where
 pub AllAsked-along : {Op : Type 0} (kind_of : Op → Kind) (config now : Config) (calls same : List (Call Op)) → now ≡ config → same ≡ calls → AllAsked kind_of config calls → AllAsked kind_of now same
 AllAsked-along kind_of config now calls same setting is all = rw (setting, is) all
 
+-- the first of them
+pub AllAsked-take : {Op : Type 0} (kind_of : Op → Kind) (config : Config) (count : ℕ) (calls : List (Call Op)) → AllAsked kind_of config calls → AllAsked kind_of config (take count calls)
+AllAsked-take kind_of config zero calls all k = λ x e. absurd (cc)
+AllAsked-take kind_of config (suc count) [] all k = all k
+AllAsked-take {Op} kind_of config (suc count) (call ∷ calls) all zero = all 0
+AllAsked-take kind_of config (suc count) (call ∷ calls) all (suc k) = AllAsked-take kind_of config count calls (λ j. all (suc j)) k
+
 -- one query more
 pub AllAsked-push : {Op : Type 0} (kind_of : Op → Kind) (config now : Config) (calls same : List (Call Op)) (call : Call Op) → now ≡ config → same ≡ calls ++ call ∷ [] → AllAsked kind_of config calls → IsAsked kind_of config call → AllAsked kind_of now same
 AllAsked-push {Op} kind_of config now calls same call setting is all own = rw (setting, is) (each-push calls call (λ (k : ℕ) (c : Call Op). IsAsked kind_of config c) all own)
+
+module _ {Value Op : Type 0} (kind_of : Op → Kind) (config now : Config) (state next : CausalState Value Op) where
+  -- pruning leaves the held queries
+  pub AllAsked-pruned : (replicas : ℕ) → now ≡ config → next ≡ pruned replicas state → AllAsked kind_of config state.held → AllAsked kind_of now next.held
+  AllAsked-pruned replicas setting is all = AllAsked-along kind_of config now state.held next.held setting (ap (λ (s : CausalState Value Op). s.held) is ∙ go (replicas == 1)) all
+    where
+      go : (alone : Bool) → (if alone then record state { updates = [] } else state).held ≡ state.held
+      go true = refl
+      go false = refl
+
+  -- a step back leaves the first of them
+  pub AllAsked-restored : (p : Saved Value) (before : CausalState Value Op) → now ≡ config → IsPointOf p state before → next ≡ before → AllAsked kind_of config state.held → AllAsked kind_of now next.held
+  AllAsked-restored p before setting point is all =
+      AllAsked-along kind_of config now (take p.held state.held) next.held setting (ap (λ (s : CausalState Value Op). s.held) (is ∙ sym point.restores)) (AllAsked-take kind_of config p.held state.held all)
+
+-- a savepoint of a state is one of the same state under another name
+pub IsPointOf-along : {Value Op : Type 0} (p : Saved Value) (state same before : CausalState Value Op) → state ≡ same → IsPointOf p same before → IsPointOf p state before
+IsPointOf-along {Value} {Op} p state same before is point = subst (λ (s : CausalState Value Op). IsPointOf p s before) (sym is) point
+
+-- and so where nothing has happened since
+pub IsPointOf-start : {Value Op : Type 0} (p : Saved Value) (state now : CausalState Value Op) → state ≡ now → IsPointOf p state state → IsPointOf p now now
+IsPointOf-start {Value} {Op} p state now is point = subst (λ (s : CausalState Value Op). IsPointOf p s s) is point
+
+-- a replica whose causal part is back is the one that it was
+pub replica-back : {Value Op T E : Type 0} (result : Result T E) (now middle before : ReplicaState Value Op) → now.config ≡ middle.config → middle.config ≡ before.config → now.me ≡ middle.me → middle.me ≡ before.me → OnErr result (now.causal ≡ before.causal) → OnErr result (now ≡ before)
+replica-back (Ok x) now middle before config config_before me me_before back = tt
+replica-back (Err e) now middle before config config_before me me_before back = λ k. record { config = (config ∙ config_before) k; me = (me ∙ me_before) k; causal = back k }
 
 module _ {Op E : Type 0} (kind_of : Op → Kind) (config : Config) where
   -- acts that may be done, with an answer behind them
@@ -56,7 +92,7 @@ module _ {Op E : Type 0} (kind_of : Op → Kind) (config : Config) where
   AllFitting-answer (Err e) acts now cid text stamp is fitting client parts = tt
   AllFitting-answer (Ok x) acts now cid text stamp is fitting client parts =
       let own : IsFitting kind_of config (Send (Client cid.client) (Answer cid text stamp)) =
-      record { to_known = lt-ltb cid.client config.clients client; shaped = record { parts = parts; client = lt-ltb cid.client config.clients client; kind = refl; logged = λ k. each-none (λ (k : ℕ) u. IsLogged kind_of (config.replicas + 1) u) k } } in
+      record { to_known = lt-ltb cid.client config.clients client; shaped = shaped-plain kind_of config (Answer cid text stamp) refl refl parts (lt-ltb cid.client config.clients client) refl } in
       subst (AllFitting kind_of config) (sym is) (AllFitting-append kind_of config acts (Send (Client cid.client) (Answer cid text stamp) ∷ []) fitting (own, tt))
 
 module _ {Value Op : Type 0} (m : Meaning Value Op) where
@@ -68,18 +104,6 @@ module _ {Value Op : Type 0} (m : Meaning Value Op) where
       go : (ready : Bool) → stamp_le first.prev state.val_ts ≡ ready → held_acts m state (calls ++ call ∷ []) ≡ held_acts m state calls ++ held_acts m state (call ∷ []) → held_acts m state (first ∷ (calls ++ call ∷ [])) ≡ held_acts m state (first ∷ calls) ++ held_acts m state (call ∷ [])
       go true is rest = rw is (ap (λ (acts : List (Act Op)). answer_act m state first ∷ acts) rest)
       go false is rest = rw is rest
-
-  -- settling leaves the held queries
-  settled-held : (replicas : ℕ) (state next : CausalState Value Op) → next ≡ pruned replicas (applied m state) → next.held ≡ state.held
-  settled-held replicas state next is = ap (λ (s : CausalState Value Op). s.held) is ∙ go (replicas == 1)
-    where
-      go : (alone : Bool) → let now = applied m state in (if alone then record now { updates = [] } else now).held ≡ state.held
-      go true = refl
-      go false = refl
-
-  -- and they can be answered then as before
-  pub AllAsked-settled : (kind_of : Op → Kind) (config now : Config) (replicas : ℕ) (state next : CausalState Value Op) → now ≡ config → next ≡ pruned replicas (applied m state) → AllAsked kind_of config state.held → AllAsked kind_of now next.held
-  AllAsked-settled kind_of config now replicas state next setting is all = AllAsked-along kind_of config now state.held next.held setting (settled-held replicas state next is) all
 
   -- one turn more: the acts so far are those of one query more
   pub answered-more : (state : CausalState Value Op) (items held : List (Call Op)) (k : ℕ) (call : Call Op) (before acts now : List (Act Op)) → items ≡ held → k < length items → call ≡ get_or items k call → acts ≡ before ++ held_acts m state (take k held) → now ≡ acts ++ held_acts m state (call ∷ []) → now ≡ before ++ held_acts m state (take (k + 1) held)
@@ -94,11 +118,11 @@ module _ {Op : Type 0} (kind_of : Op → Kind) (config now : Config) (same : con
   pub IsGossip-shaped : (message : Message Op) (gossip : Gossip Op) → message ≡ GossipMessage gossip → IsShaped kind_of now message → IsGossip kind_of (config.replicas + 1) gossip
   IsGossip-shaped message gossip is shaped =
       let own : IsShaped kind_of now (GossipMessage gossip) = subst (IsShaped kind_of now) is shaped in
-      subst (λ (c : Config). IsGossip kind_of (c.replicas + 1) gossip) (sym same) (record { rep_parts = own.parts; logged = own.logged })
+      subst (λ (c : Config). IsGossip kind_of (c.replicas + 1) gossip) (sym same) (record { rep_parts = own.parts; logged = own.logged; updates_received = own.updates_received; acks_received = own.acks_received })
 
   -- and sent
   pub AllFitting-gossip : (gossip : Gossip Op) (to : ℕ) (before after : List (Act Op)) → before ≡ [] → after ≡ before ++ Send (Replica to) (GossipMessage gossip) ∷ [] → to < now.replicas → IsGossip kind_of (config.replicas + 1) gossip → AllFitting kind_of now after
   AllFitting-gossip gossip to before after none is within shape =
       let own : IsGossip kind_of (now.replicas + 1) gossip = subst (λ (c : Config). IsGossip kind_of (c.replicas + 1) gossip) same shape in
       subst (AllFitting kind_of now) (sym (is ∙ ap (λ (acts : List (Act Op)). acts ++ Send (Replica to) (GossipMessage gossip) ∷ []) none))
-      (record { to_known = lt-ltb to now.replicas within; shaped = record { parts = own.rep_parts; client = refl; kind = refl; logged = own.logged } }, tt)
+      (record { to_known = lt-ltb to now.replicas within; shaped = record { parts = own.rep_parts; client = refl; kind = refl; logged = own.logged; updates_received = own.updates_received; acks_received = own.acks_received } }, tt)

@@ -1,30 +1,52 @@
 -- What is sent may be delivered.
-use Rattle.std.proofs.Common.{◌≡◌, ◌+◌, ◌<◌, ℕ, Bool, true, false, List, [], ◌∷◌, ◌++◌, length, not, Option, None, Some, lt-ltb, subst, sym, ap, append-nil, append_assoc}
+use Rattle.std.proofs.Common.{◌≡◌, ◌+◌, ◌<◌, ℕ, Bool, true, false, List, [], ◌∷◌, ◌++◌, length, not, Option, None, Some, Result, Ok, Err, OnErr, OnOk, lt-ltb, refl, subst, sym, ap, append-nil, append_assoc}
+use Rattle.std.specs.Prelude.{IfOk}
 use Rattle.lr_base.specs.Fronts.{FrontState, message_of}
 use Rattle.lr_base.specs.Kinds.{is_query}
 use Rattle.lr_base.specs.Logged.{IsLogged}
+use Rattle.lr_base.specs.Rules.{is_new}
+use Rattle.lr_base.specs.Replicas.{ReplicaState}
+use Rattle.lr_base.specs.Steps.{Ending}
 use Rattle.lr_base.specs.declared.acts.Act.{Act}
 use Rattle.lr_base.specs.declared.acts.Act.TheVariants.{Say, Send}
 use Rattle.lr_base.specs.declared.acts.Posted.{Posted}
+use Rattle.lr_base.specs.declared.events.Event.{Event}
 use Rattle.lr_base.specs.declared.events.Outcome.{Outcome}
 use Rattle.lr_base.specs.declared.lr_service.Kind.{Kind}
 use Rattle.lr_base.specs.declared.lr_service.Kind.TheVariants.{Query, Causal, Forced, Immediate}
+use Rattle.lr_base.specs.declared.messages.LogAck.{LogAck}
+use Rattle.lr_base.specs.declared.messages.LogUpdate.{LogUpdate}
+use Rattle.lr_base.specs.declared.messages.Message.{Message}
 use Rattle.lr_base.specs.declared.names.Actor.{Actor}
+use Rattle.lr_base.specs.declared.names.Actor.TheVariants.{Replica}
 use Rattle.lr_base.specs.declared.names.Cid.{Cid}
 use Rattle.lr_base.specs.declared.names.Config.{Config}
 use Rattle.lr_graph.specs.Runs.{act_posts}
 use Rattle.lr_world.proofs.Everywhere.{each-none, each-push}
 use Rattle.lr_world.specs.FrontActs.{all_said, front_acts}
 use Rattle.lr_world.specs.Posts.{AllPosted, IsPosted}
-use Rattle.lr_world.specs.Shapes.{AllFitting, IsShaped, is_actor}
+use Rattle.lr_world.specs.Recorded.{Recorded}
+use Rattle.lr_world.specs.Shapes.{AllFitting, IsShaped, acks_in, has_client, has_kind, is_actor, stamp_in, updates_in}
+use Rattle.lr_world.specs.Worlds.{HasDone}
 
 module _ {Op : Type 0} (kind_of : Op → Kind) (config : Config) where
+  -- a message that tells no update and no acknowledgement has its shape
+  pub shaped-plain : (message : Message Op) → updates_in message ≡ [] → acks_in message ≡ [] → length (stamp_in message) ≡ config.replicas + 1 → has_client config message ≡ true → has_kind kind_of message ≡ true → IsShaped kind_of config message
+  shaped-plain message no_updates no_acks parts client kind = record {
+    parts = parts;
+    client = client;
+    kind = kind;
+    logged = rw no_updates (each-none (λ (k : ℕ) u. IsLogged kind_of (config.replicas + 1) u));
+    updates_received = rw no_updates (each-none (λ (k : ℕ) (u : LogUpdate Op). is_new (stamp_in message) u.spot ≡ false));
+    acks_received = rw no_acks (each-none (λ (k : ℕ) (a : LogAck). is_new (stamp_in message) a.spot ≡ false));
+  }
+
   -- the message of a call has its shape
   shaped-call : (front : FrontState) (reading : ℕ) (op : Op) (kind : Kind) → kind_of op ≡ kind → length front.label ≡ config.replicas + 1 → front.client < config.clients → IsShaped kind_of config (message_of kind front reading op)
-  shaped-call front reading op Query is parts client = record { parts = parts; client = lt-ltb front.client config.clients client; logged = λ k. each-none (λ (k : ℕ) u. IsLogged kind_of (config.replicas + 1) u) k; kind = ap is_query is }
-  shaped-call front reading op Causal is parts client = record { parts = parts; client = lt-ltb front.client config.clients client; logged = λ k. each-none (λ (k : ℕ) u. IsLogged kind_of (config.replicas + 1) u) k; kind = ap (λ (k : Kind). not (is_query k)) is }
-  shaped-call front reading op Forced is parts client = record { parts = parts; client = lt-ltb front.client config.clients client; logged = λ k. each-none (λ (k : ℕ) u. IsLogged kind_of (config.replicas + 1) u) k; kind = ap (λ (k : Kind). not (is_query k)) is }
-  shaped-call front reading op Immediate is parts client = record { parts = parts; client = lt-ltb front.client config.clients client; logged = λ k. each-none (λ (k : ℕ) u. IsLogged kind_of (config.replicas + 1) u) k; kind = ap (λ (k : Kind). not (is_query k)) is }
+  shaped-call front reading op Query is parts client = shaped-plain (message_of Query front reading op) refl refl parts (lt-ltb front.client config.clients client) (ap is_query is)
+  shaped-call front reading op Causal is parts client = shaped-plain (message_of Causal front reading op) refl refl parts (lt-ltb front.client config.clients client) (ap (λ (k : Kind). not (is_query k)) is)
+  shaped-call front reading op Forced is parts client = shaped-plain (message_of Forced front reading op) refl refl parts (lt-ltb front.client config.clients client) (ap (λ (k : Kind). not (is_query k)) is)
+  shaped-call front reading op Immediate is parts client = shaped-plain (message_of Immediate front reading op) refl refl parts (lt-ltb front.client config.clients client) (ap (λ (k : Kind). not (is_query k)) is)
 
   -- what a front end that is called does may be sent
   pub fitting-call : (front : FrontState) (replica reading : ℕ) (op : Op) (kind : Kind) (open_call : Option Cid) (worn : Bool) → kind_of op ≡ kind → length front.label ≡ config.replicas + 1 → front.client < config.clients → replica < config.replicas → AllFitting kind_of config (front_acts kind replica reading op front open_call worn)
@@ -46,3 +68,9 @@ module _ {Op : Type 0} (kind_of : Op → Kind) (config : Config) where
       let own : Posted Op = record { from = from; to = to; message = message } in
       let first : AllPosted kind_of config (posted ++ own ∷ []) = each-push posted own (λ (k : ℕ) p. IsPosted kind_of config p) all (record { from_known = known; sendable = fitting.0 }) in
       subst (λ (ps : List (Posted Op)). AllPosted kind_of config ps) (append_assoc posted (own ∷ []) (act_posts from acts)) (posted-more (posted ++ own ∷ []) from acts known fitting.1 first)
+
+  -- and so after a replica's step, which sends all or nothing
+  pub posted-done : {Value E : Type 0} (result : Result (List Outcome) E) (end : Ending Value Op) (event : Event Op) (before after : ReplicaState Value Op) (kept now : Recorded Op) → is_actor config (Replica before.me) ≡ true → IfOk result (HasDone end event before after kept now) → OnErr result (now ≡ kept) → OnOk result (AllFitting kind_of config end.acts) → AllPosted kind_of config kept.posted → AllPosted kind_of config now.posted
+  posted-done (Ok lines) end event before after kept now known done same fitting all =
+      subst (λ (ps : List (Posted Op)). AllPosted kind_of config ps) (sym done.posted) (posted-more kept.posted (Replica before.me) end.acts known fitting all)
+  posted-done (Err e) end event before after kept now known done same fitting all = subst (λ (h : Recorded Op). AllPosted kind_of config h.posted) (sym same) all

@@ -1,5 +1,5 @@
 -- Facts about every element of a list, by its index.
-use Rattle.std.proofs.Common.{◌≡◌, ℕ, zero, suc, List, [], ◌∷◌, ◌++◌, length, set, Some, None, subst, sym, cond, Bool, true, false, ◌<◌, get_or, ◌∙◌, Option, arith}
+use Rattle.std.proofs.Common.{◌≡◌, ℕ, zero, suc, List, [], ◌∷◌, ◌++◌, length, set, Some, None, refl, subst, sym, cond, Bool, true, false, ◌<◌, get_or, ◌∙◌, Option, arith}
 use Rattle.std.proofs.lemmas.Option.{slice_get_past, slice_get_read}
 use Rattle.std.specs.Prelude.{slice_get}
 use Rattle.std.specs.Option.{ForSome}
@@ -32,6 +32,12 @@ module _ {X : Type 0} where
   -- an element that was read is one of them
   pub each-read : (xs : List X) (i : ℕ) (x : X) (P : ℕ → X → Type 0) → ((k : ℕ) → ForSome (slice_get xs k) (P k)) → (count : ℕ) → count ≡ length xs → i < count → x ≡ get_or xs i x → P i x
   each-read xs i x P all count long within is = all i x (slice_get_read xs count i x long within is)
+
+  -- an index within the list has an element
+  pub read-within : (xs : List X) (i : ℕ) → i < length xs → (x : X) × (slice_get xs i ≡ Some x)
+  read-within [] i within = absurd (omega arith)
+  read-within (x ∷ xs) zero within = (x, refl)
+  read-within (x ∷ xs) (suc i) within = read-within xs i (omega (arith, within))
 
 -- nothing is at no place
 pub each-none : {X : Type 0} (P : ℕ → X → Type 0) (k : ℕ) → ForSome (slice_get [] k) (P k)

@@ -4,3 +4,4 @@ pub mod Calling
 pub mod FrontCalls
 pub mod RunLemmas
 pub mod SortedCalls
+pub mod Histories

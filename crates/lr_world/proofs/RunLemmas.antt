@@ -1,5 +1,5 @@
 -- What the parts of an event come to in a run.
-use Rattle.std.proofs.Common.{◌≡◌, ◌==◌, ◌^◌, ◌+◌, ℕ, suc, Bool, true, false, [], ◌∷◌, ◌++◌, length, arith, refl, sym, ap, ◌∙◌, subst, append-nil, List, Option, None, Some, set}
+use Rattle.std.proofs.Common.{◌≡◌, ◌==◌, ◌^◌, ◌+◌, ℕ, suc, Bool, true, false, [], ◌∷◌, ◌++◌, length, arith, refl, sym, ap, ◌∙◌, subst, append-nil, List, Option, None, Some, Result, Ok, Err, IfOk, set}
 use Rattle.std.specs.List.{slice_get}
 use Rattle.lr_base.specs.Fronts.{FrontState, new_front}
 use Rattle.lr_base.specs.Meaning.{Meaning}
@@ -22,6 +22,11 @@ use Rattle.lr_world.specs.FrontActs.{all_said, front_acts, front_next}
 use Rattle.lr_world.specs.Recorded.{Recorded}
 use Rattle.lr_world.specs.Worlds.{HasDone, HasMade}
 
+-- what follows from a success
+pub map-ok : {A E : Type 0} (result : Result A E) (P Q : A → Type 0) → ((x : A) → P x → Q x) → IfOk result P → IfOk result Q
+map-ok (Ok x) P Q step p = step x p
+map-ok (Err e) P Q step p = tt
+
 -- one more replica, and front end
 pub first_replicas-more : {Value Op : Type 0} (m : Meaning Value Op) (config : Config) (k : ℕ) → first_replicas m config k ++ first_replica m config k ∷ [] ≡ first_replicas m config (k + 1)
 first_replicas-more m config k = let next : suc k ≡ k + 1 = omega arith in ap (first_replicas m config) next
@@ -29,20 +34,20 @@ first_replicas-more m config k = let next : suc k ≡ k + 1 = omega arith in ap 
 pub first_fronts-more : (config : Config) (k : ℕ) → first_fronts config k ++ new_front k (config.replicas + 1) ∷ [] ≡ first_fronts config (k + 1)
 first_fronts-more config k = let next : suc k ≡ k + 1 = omega arith in ap (first_fronts config) next
 
+-- lines that are said are printed, and nothing is sent
+said-lines : (Op : Type 0) (sent : ℕ) (from : Actor) (lines : List Outcome) → act_lines {Op = Op} sent from (all_said {Op = Op} lines) ≡ lines
+said-lines Op sent from [] = refl
+said-lines Op sent from (line ∷ lines) = ap (λ (rest : List Outcome). line ∷ rest) (said-lines Op sent from lines)
+
+said-posts : (Op : Type 0) (from : Actor) (lines : List Outcome) → act_posts {Op = Op} from (all_said {Op = Op} lines) ≡ []
+said-posts Op from [] = refl
+said-posts Op from (line ∷ lines) = said-posts Op from lines
+
 module _ {Value Op : Type 0} where
-  -- lines that are said are printed, and nothing is sent
-  said-lines : (sent : ℕ) (from : Actor) (lines : List Outcome) → act_lines {Op} sent from (all_said lines) ≡ lines
-  said-lines sent from [] = refl
-  said-lines sent from (line ∷ lines) = ap (λ (rest : List Outcome). line ∷ rest) (said-lines sent from lines)
-
-  said-posts : (from : Actor) (lines : List Outcome) → act_posts {Op} from (all_said lines) ≡ []
-  said-posts from [] = refl
-  said-posts from (line ∷ lines) = said-posts from lines
-
   said-acted : (run : RunState Value Op) (from : Actor) (lines : List Outcome) → acted run from (all_said lines) ≡ unchanged run lines
   said-acted run from lines =
-      let sent : run.posted ++ act_posts from (all_said lines) ≡ run.posted = ap (λ (more : List (Posted Op)). run.posted ++ more) (said-posts from lines) ∙ append-nil run.posted in
-      λ k. record { run = record run { posted = sent k }; outcomes = said-lines (length run.posted) from lines k }
+      let sent : run.posted ++ act_posts from (all_said lines) ≡ run.posted = ap (λ (more : List (Posted Op)). run.posted ++ more) (said-posts Op from lines) ∙ append-nil run.posted in
+      λ k. record { run = record run { posted = sent k }; outcomes = said-lines Op (length run.posted) from lines k }
 
   -- what a front end does when it is called
   called-acted : (m : Meaning Value Op) (run : RunState Value Op) (client replica reading : ℕ) (op : Op) (front : FrontState) (open_call : Option Cid) (worn : Bool) → acted (with_front run client (front_next reading front open_call worn)) (Client client) (front_acts (m.kind op) replica reading op front open_call worn) ≡ front_called m run client (Replica replica) reading op front open_call worn
@@ -52,7 +57,7 @@ module _ {Value Op : Type 0} where
 
   -- an actor's acts are sent and printed
   acted-made : (run : RunState Value Op) (from : Actor) (acts : List (Act Op)) (event : Event Op) (before after : List (Step Op)) (now : RunState Value Op) (lines : List Outcome) → now ≡ record run { posted = run.posted ++ act_posts from acts } → after ≡ before ++ record { event = event; outcomes = act_lines (length run.posted) from acts } ∷ [] → lines ≡ act_lines (length run.posted) from acts → HasMade (acted run from acts) event before after now lines
-  acted-made run from acts event before after now lines is noted printed = record { run = is; steps = noted; lines = printed }
+  acted-made run from acts event before after now lines is noted printed = record { run = is; steps = noted; printed = printed }
 
   -- a front end that is there is called
   pub called-made : (m : Meaning Value Op) (run : RunState Value Op) (client replica reading : ℕ) (op : Op) (front next : FrontState) (acts : List (Act Op)) (event : Event Op) (before after : List (Step Op)) (now : RunState Value Op) (lines : List Outcome) → slice_get run.fronts client ≡ Some front
@@ -87,5 +92,5 @@ module _ {Value Op : Type 0} where
       record {
         run = is ∙ (λ k. record run { replicas = set run.replicas i (done.replica k); posted = posts k });
         steps = done.steps ∙ (λ k. kept.steps ++ record { event = event; outcomes = lines_of (own k) (same k) } ∷ []);
-        lines = done.lines ∙ (λ k. lines_of (own k) (same k));
+        printed = done.printed ∙ (λ k. lines_of (own k) (same k));
       }

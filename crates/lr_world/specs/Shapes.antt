@@ -11,6 +11,8 @@ use Rattle.lr_base.specs.declared.events.Event.{Event}
 use Rattle.lr_base.specs.declared.events.Event.TheVariants.{Call, Deliver, Gossip as GossipEvent, Show}
 use Rattle.lr_base.specs.Logged.{AllLogged}
 use Rattle.lr_base.specs.Meaning.{Meaning}
+use Rattle.lr_causal.specs.Causal.{AllAcksReceived, AllReceived}
+use Rattle.lr_base.specs.declared.messages.LogAck.{LogAck}
 use Rattle.lr_base.specs.declared.messages.LogUpdate.{LogUpdate}
 use Rattle.lr_base.specs.declared.messages.Message.{Message}
 use Rattle.lr_base.specs.declared.messages.Message.TheVariants.{Update, Query, Done, Answer, Gossip}
@@ -39,6 +41,14 @@ updates_in (Done cid spot stamp) = []
 updates_in (Answer cid text stamp) = []
 updates_in (Gossip gossip) = gossip.updates
 
+-- the acknowledgements that a message tells
+abbrev pub acks_in : {Op : Type 0} → Message Op → List LogAck
+acks_in (Update call time) = []
+acks_in (Query call) = []
+acks_in (Done cid spot stamp) = []
+acks_in (Answer cid text stamp) = []
+acks_in (Gossip gossip) = gossip.acks
+
 -- an update message holds an update, and a query message a query
 abbrev pub has_kind : {Op : Type 0} → (Op → Kind) → Message Op → Bool
 has_kind kind_of (Update call time) = not (is_query (kind_of call.op))
@@ -52,12 +62,14 @@ abbrev pub is_actor : Config → Actor → Bool
 is_actor config (Client client) = nat_lt client config.clients
 is_actor config (Replica replica) = nat_lt replica config.replicas
 
--- a message of this run: its stamp has a part for each place, its client is one of the run's, and the updates that it tells can be logged
+-- a message of this run: its stamp has a part for each place, its client is one of the run's, the updates that it tells can be logged, and its stamp says that all that it tells was received
 pub record IsShaped {Op : Type 0} (kind_of : Op → Kind) (config : Config) (message : Message Op) : Type 0 where
   pub parts : length (stamp_in message) ≡ config.replicas + 1
   pub client : has_client config message ≡ true
   pub kind : has_kind kind_of message ≡ true
   pub logged : AllLogged kind_of (config.replicas + 1) (updates_in message)
+  pub updates_received : AllReceived (stamp_in message) (updates_in message)
+  pub acks_received : AllAcksReceived (stamp_in message) (acks_in message)
 
 -- whoever gets a message of this run is one of the run's clients or replicas
 pub record IsSendable {Op : Type 0} (kind_of : Op → Kind) (config : Config) (to : Actor) (message : Message Op) : Type 0 where

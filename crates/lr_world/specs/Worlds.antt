@@ -33,10 +33,10 @@ pub record HasDone {Value Op : Type 0} (end : Ending Value Op) (event : Event Op
   pub replica : after ≡ record before { causal = end.state }
   pub posted : now.posted ≡ kept.posted ++ act_posts (Replica before.me) end.acts
   pub steps : now.steps ≡ kept.steps ++ record { event = event; outcomes = act_lines (length kept.posted) (Replica before.me) end.acts } ∷ []
-  pub lines : lines ≡ act_lines (length kept.posted) (Replica before.me) end.acts
+  pub printed : lines ≡ act_lines (length kept.posted) (Replica before.me) end.acts
 
 -- an event came to this: the run after it, its lines, and its step behind the others
 pub record HasMade {Value Op : Type 0} (made : Stepped Value Op) (event : Event Op) (before after : List (Step Op)) (now : RunState Value Op) (lines : List Outcome) : Type 0 where
   pub run : now ≡ made.run
   pub steps : after ≡ before ++ record { event = event; outcomes = made.outcomes } ∷ []
-  pub lines : lines ≡ made.outcomes
+  pub printed : lines ≡ made.outcomes

@@ -68,6 +68,7 @@ impl<O: Operation> History<O> {
     pub fn note(&mut self, event: Event<O>, lines: Rows<Outcome>) -> Result<Rows<Outcome>, NoMemory>
         ensures lines { IfOk result (λ noted. noted ≡ lines) }
         ensures ok { OnOk result (self.new ≡ record self.old { steps = self.old.steps ++ record { event = event; outcomes = lines } ∷ [] }) }
+        ensures posted { self.new.posted ≡ self.old.posted }
         ensures err { OnErr result (self.new ≡ self.old) }
     {
         let outcomes = copy_outcomes(self.allocator(), lines.as_slice())?;

@@ -95,6 +95,7 @@ impl<S: Service> World<S> {
         ensures legal { IsLegal S.meaning self.new.config self.new.steps }
         ensures err { OnErr result (self.new ≡ self.old) }
     {
+        let _ = &self.actors;
         a_made_history_goes_on::<S>();
         what_is_made_is_legal::<S>();
         let noted = copy_event(event)?;

@@ -1,0 +1,19 @@
+use Rattle.std.proofs.Common.{ap, not}
+use Rattle.std.specs.Prelude.{filter}
+use Rattle.lr_base.specs.Stamps.{stamp_le}
+use Rattle.lr_base.specs.declared.messages.Call.{Call}
+use Rattle.lr_causal.specs.State.{config_of, state_of}
+use Rattle.lr_world.proofs.Answering.{AllAsked-along, AllAsked-filter, AllAsked-pruned}
+use Rattle.lr_world.specs.Asked.{AllAsked}
+use Rattle.lr_world.proofs.replica.Replica.finish.Goals as goal
+
+pub invariant_of-self : goal.invariant_of-self
+invariant_of-self g c =
+    let it = c.self.inside.causal in
+    let next = c.drop_answered.new.self in
+    let after = c.prune.new.self in
+    let waits = λ (call : Call _). not (stamp_le call.prev (state_of it).val_ts) in
+    let held : AllAsked g.S.Op.Operation.kind_of (config_of next) (state_of next).held =
+    AllAsked-along g.S.Op.Operation.kind_of (config_of it) (config_of next) (filter waits (state_of it).held) (state_of next).held c.drop_answered.ensures.config (ap (λ s. s.held) c.drop_answered.ensures.state)
+    (AllAsked-filter g.S.Op.Operation.kind_of (config_of it) waits (state_of it).held c.self.invariant) in
+    AllAsked-pruned g.S.Op.Operation.kind_of (config_of next) (config_of after) (state_of next) (state_of after) (config_of next).replicas c.prune.ensures.config c.prune.ensures.state held
