@@ -1,6 +1,6 @@
 -- A savepoint stays one of its state through the parts of a step.
-use Rattle.std.proofs.Common.{◌≡◌, ◌≤◌, ◌+◌, ◌<◌, ℕ, true, not, List, [], ◌∷◌, length, take, get_or, refl, sym, ◌∙◌, ap, Option, Some, None, arith, lt-ltb}
-use Rattle.std.specs.Prelude.{filter, set}
+use Rattle.std.proofs.Common.{◌≡◌, ◌+◌, ◌<◌, ℕ, true, not, List, [], length, take, get_or, refl, sym, ◌∙◌, ap, Option, Some, None, arith, lt-ltb}
+use Rattle.std.specs.Prelude.{filter}
 use Rattle.std.specs.Option.{ForSome}
 use Rattle.std.proofs.Math.ListN.{length-set}
 use Rattle.std.proofs.Math.Seq.{take-length, take-take}
@@ -11,7 +11,7 @@ use Rattle.lr_base.specs.declared.messages.LogAck.{LogAck}
 use Rattle.lr_base.specs.declared.messages.LogUpdate.{LogUpdate}
 use Rattle.lr_base.specs.declared.names.Cid.{Cid}
 use Rattle.lr_base.specs.Rules.{CausalState, gossip_taken, is_new, new_acks, new_updates, put_acks, put_update}
-use Rattle.lr_base.specs.Stamps.{join, part, set_part, stamp_le}
+use Rattle.lr_base.specs.Stamps.{join, part, set_part}
 use Rattle.lr_base.specs.StampLaws.{join-least, length-join, length-set_part, parts-stamp_le, stamp_le-refl, stamp_le-trans}
 use Rattle.lr_value.specs.Applied.{Applied}
 use Rattle.lr_causal.specs.Causal.{AllAcksReceived, AllReceived, AllStamps}

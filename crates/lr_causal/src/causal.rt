@@ -339,7 +339,7 @@ impl<S: Service> Causal<S> {
         Ok(())
     }
 
-    /// What is needed to undo the steps that follow.
+    /// What is needed to undo what comes next: stamps and lengths, no value, no item and no call.
     pub fn save(&self) -> Result<Savepoint<S>, NoMemory>
         ensures { IfOk result (λ p. IsPointOf p (state_of self.now) (state_of self.now)) }
     {
@@ -372,7 +372,7 @@ impl<S: Service> Causal<S> {
         Ok(())
     }
 
-    /// Drops what is known everywhere. It takes no memory. No savepoint can undo it.
+    /// Drops what is known everywhere. It takes no memory, and no savepoint undoes it.
     pub fn prune(&mut self)
         ensures state { state_of self.new ≡ pruned (config_of self.old).replicas (state_of self.old) }
         ensures config { config_of self.new ≡ config_of self.old }
@@ -383,7 +383,7 @@ impl<S: Service> Causal<S> {
         }
     }
 
-    /// Undoes what was done since the savepoint was made. It takes no memory.
+    /// Gives back the state in which the savepoint was made, where only `accept`, `take_gossip`, `hold` and `apply` have changed it since. It takes no memory.
     pub fn restore(&mut self, point: Savepoint<S>)
         requires { HasShapeOf point (state_of self.old) }
         ensures state { (before : CausalState S S.Op) → IsPointOf point (state_of self.old) before → state_of self.new ≡ before }
@@ -421,7 +421,7 @@ impl<S: Service> Causal<S> {
         Ok(())
     }
 
-    /// Drops the held queries whose label is applied. It takes no memory.
+    /// Drops the held queries whose label is applied. It takes no memory, and no savepoint undoes it.
     pub fn drop_answered(&mut self)
         ensures state { state_of self.new ≡ still_held (state_of self.old) }
         ensures config { config_of self.new ≡ config_of self.old }
