@@ -1,10 +1,10 @@
 -- What stays of a log when some of its items leave.
-use Rattle.std.proofs.Common.{◌≡◌, ℕ, zero, suc, Bool, true, false, not, List, [], ◌∷◌, refl, ◌∙◌, ap, Some}
+use Rattle.std.proofs.Common.{◌≡◌, suc, Bool, true, false, not, List, [], ◌∷◌, refl, ◌∙◌, ap}
 use Rattle.std.specs.Prelude.{filter}
 use Rattle.lr_base.specs.declared.messages.LogAck.{LogAck}
 use Rattle.lr_base.specs.declared.messages.LogUpdate.{LogUpdate}
 use Rattle.lr_base.specs.Rules.{is_before, put_ack, put_acks, put_update, put_updates}
-use Rattle.lr_causal.proofs.Received.{Each}
+use Rattle.lr_causal.proofs.Each.{Each}
 
 -- where none leaves, all stay
 pub filter-none : {X : Type 0} (leaves : X → Bool) (xs : List X) → Each (λ x. leaves x ≡ false) xs → filter (λ x. not (leaves x)) xs ≡ xs

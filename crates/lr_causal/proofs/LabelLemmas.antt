@@ -1,5 +1,5 @@
 -- Whether a label is at most a stamp, part by part.
-use Rattle.std.proofs.Common.{◌≡◌, ◌<◌, ◌≤◌, ℕ, zero, suc, Bool, true, false, ◌==◌, nat_le, List, [], ◌∷◌, length, refl, arith, eq-eqb, le-leb}
+use Rattle.std.proofs.Common.{◌≡◌, ◌<◌, ◌≤◌, ℕ, suc, Bool, true, false, ◌==◌, nat_le, List, [], ◌∷◌, length, refl, arith, eq-eqb, le-leb}
 use Rattle.lr_base.specs.Stamps.{part, stamp_le}
 use Rattle.lr_base.specs.StampLaws.{parts-stamp_le}
 

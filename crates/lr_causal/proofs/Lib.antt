@@ -1,3 +1,4 @@
+mod Each
 mod Facts
 mod Kept
 mod LabelLemmas

@@ -1,6 +1,6 @@
 -- A savepoint stays one of its state through the parts of a step.
-use Rattle.std.proofs.Common.{◌≡◌, ◌≤◌, ◌+◌, ◌<◌, ℕ, true, not, List, [], ◌∷◌, length, take, get_or, refl, sym, ◌∙◌, ap, Option, Some, None, arith, lt-ltb}
-use Rattle.std.specs.Prelude.{filter, set}
+use Rattle.std.proofs.Common.{◌≡◌, ◌+◌, ◌<◌, ℕ, true, not, List, [], length, take, get_or, refl, sym, ◌∙◌, ap, Option, Some, None, arith, lt-ltb}
+use Rattle.std.specs.Prelude.{filter}
 use Rattle.std.specs.Option.{ForSome}
 use Rattle.std.proofs.Math.ListN.{length-set}
 use Rattle.std.proofs.Math.Seq.{take-length, take-take}
@@ -11,13 +11,14 @@ use Rattle.lr_base.specs.declared.messages.LogAck.{LogAck}
 use Rattle.lr_base.specs.declared.messages.LogUpdate.{LogUpdate}
 use Rattle.lr_base.specs.declared.names.Cid.{Cid}
 use Rattle.lr_base.specs.Rules.{CausalState, gossip_taken, is_new, new_acks, new_updates, put_acks, put_update}
-use Rattle.lr_base.specs.Stamps.{join, part, set_part, stamp_le}
+use Rattle.lr_base.specs.Stamps.{join, part, set_part}
 use Rattle.lr_base.specs.StampLaws.{join-least, length-join, length-set_part, parts-stamp_le, stamp_le-refl, stamp_le-trans}
 use Rattle.lr_value.specs.Applied.{Applied}
 use Rattle.lr_causal.specs.Causal.{AllAcksReceived, AllReceived, AllStamps}
 use Rattle.lr_causal.specs.Savepoint.{HasShapeOf, IsPointOf, Saved, restored, value_before}
 use Rattle.lr_causal.proofs.Kept.{filter-none, filter-put, filter-put_acks, filter-put_all}
-use Rattle.lr_causal.proofs.Received.{Each-passes, new-earlier, set_part-above}
+use Rattle.lr_causal.proofs.Each.{Each-passes}
+use Rattle.lr_causal.proofs.Received.{new-earlier, set_part-above}
 use Rattle.lr_log.specs.Items.{Items, items_of}
 
 module _ {Value Op : Type 0} where
@@ -75,11 +76,11 @@ module _ {Value Op : Type 0} where
   pub point-taken : (p : Saved Value) (from : ℕ) (state before : CausalState Value Op) (gossip : Gossip Op) → length gossip.rep_ts ≡ length state.rep_ts → IsPointOf p state before → IsPointOf p (gossip_taken from state gossip) before
   point-taken p from state before gossip long point =
       let updates =
-          filter-put_all (λ (u : LogUpdate Op). is_new p.rep_ts u.spot) (new_updates state.rep_ts gossip.updates) state.updates
-          (Each-passes (λ (u : LogUpdate Op). is_new p.rep_ts u.spot ≡ true) (λ u. is_new state.rep_ts u.spot) gossip.updates (λ u new. new-earlier p.rep_ts state.rep_ts u.spot point.received new)) in
+      filter-put_all (λ (u : LogUpdate Op). is_new p.rep_ts u.spot) (new_updates state.rep_ts gossip.updates) state.updates
+      (Each-passes (λ (u : LogUpdate Op). is_new p.rep_ts u.spot ≡ true) (λ u. is_new state.rep_ts u.spot) gossip.updates (λ u new. new-earlier p.rep_ts state.rep_ts u.spot point.received new)) in
       let acks =
-          filter-put_acks (λ (a : LogAck). is_new p.rep_ts a.spot) (new_acks state.rep_ts gossip.acks) state.acks
-          (Each-passes (λ (a : LogAck). is_new p.rep_ts a.spot ≡ true) (λ a. is_new state.rep_ts a.spot) gossip.acks (λ a new. new-earlier p.rep_ts state.rep_ts a.spot point.received new)) in
+      filter-put_acks (λ (a : LogAck). is_new p.rep_ts a.spot) (new_acks state.rep_ts gossip.acks) state.acks
+      (Each-passes (λ (a : LogAck). is_new p.rep_ts a.spot ≡ true) (λ a. is_new state.rep_ts a.spot) gossip.acks (λ a new. new-earlier p.rep_ts state.rep_ts a.spot point.received new)) in
       record {
         restores =
             ap (λ (us : List (LogUpdate Op)). record (restored p state) { updates = us; acks = filter (λ a. not (is_new p.rep_ts a.spot)) (put_acks (new_acks state.rep_ts gossip.acks) state.acks) }) updates

@@ -1,13 +1,13 @@
 //! The causal part of a replica.
-ghost use Rattle.std.specs.Prelude.{◌≡◌, ◌+◌, ◌<◌, ◌≤◌, get_or, length, replicate, set, [], IfOk};
+ghost use Rattle.std.specs.Prelude.{◌≡◌, ◌+◌, ◌<◌, length, IfOk};
 ghost use Rattle.lr_base.specs.Config.{IsValid};
-ghost use Rattle.lr_base.specs.Stamps.{join};
 ghost use Rattle.lr_base.specs.Logged.{AllLogged, AllKnown};
 ghost use Rattle.lr_causal.specs.Causal.{AllAcksReceived, AllReceived, AllStamps};
 
 use crate::applying::apply_copy;
 use crate::calls::CallTable;
 use crate::gossip::{copy_updates, new_acks, new_updates};
+use crate::heard::{copy_table, first_table, join_row};
 use crate::labels::is_applied;
 use crate::lateness::late;
 use crate::savepoint::{Savepoint, put_back};
@@ -339,7 +339,7 @@ impl<S: Service> Causal<S> {
         Ok(())
     }
 
-    /// What is needed to undo the steps that follow.
+    /// What is needed to undo what comes next: stamps and lengths, no value, no item and no call.
     pub fn save(&self) -> Result<Savepoint<S>, NoMemory>
         ensures { IfOk result (λ p. IsPointOf p (state_of self.now) (state_of self.now)) }
     {
@@ -372,7 +372,7 @@ impl<S: Service> Causal<S> {
         Ok(())
     }
 
-    /// Drops what is known everywhere. It takes no memory. No savepoint can undo it.
+    /// Drops what is known everywhere. It takes no memory, and no savepoint undoes it.
     pub fn prune(&mut self)
         ensures state { state_of self.new ≡ pruned (config_of self.old).replicas (state_of self.old) }
         ensures config { config_of self.new ≡ config_of self.old }
@@ -383,7 +383,7 @@ impl<S: Service> Causal<S> {
         }
     }
 
-    /// Undoes what was done since the savepoint was made. It takes no memory.
+    /// Gives back the state in which the savepoint was made, where only `accept`, `take_gossip`, `hold` and `apply` have changed it since. It takes no memory.
     pub fn restore(&mut self, point: Savepoint<S>)
         requires { HasShapeOf point (state_of self.old) }
         ensures state { (before : CausalState S S.Op) → IsPointOf point (state_of self.old) before → state_of self.new ≡ before }
@@ -421,7 +421,7 @@ impl<S: Service> Causal<S> {
         Ok(())
     }
 
-    /// Drops the held queries whose label is applied. It takes no memory.
+    /// Drops the held queries whose label is applied. It takes no memory, and no savepoint undoes it.
     pub fn drop_answered(&mut self)
         ensures state { state_of self.new ≡ still_held (state_of self.old) }
         ensures config { config_of self.new ≡ config_of self.old }
@@ -430,40 +430,6 @@ impl<S: Service> Causal<S> {
         let val_ts = self.value.val_ts();
         self.held.retain(|call| !is_applied(&call.prev, val_ts));
     }
-}
-
-// Joins a stamp to the one at an index.
-fn join_row(table: &mut Vec<Stamp>, at: u8, stamp: &Stamp)
-    requires within { at < length table.old.items }
-    requires parts { AllStamps (length stamp.now) table.old.items }
-    ensures joined { table.new.items ≡ set table.old.items at (join (get_or table.old.items at []) stamp.now) }
-    ensures rows { length table.new.items ≡ length table.old.items }
-    ensures parts { AllStamps (length stamp.now) table.new.items }
-{
-    table[at as usize].join(stamp);
-}
-
-// A stamp of zeros for each replica.
-fn first_table(alloc: Global, replicas: u8, parts: u8) -> Result<Vec<Stamp>, NoMemory>
-    requires some { 2 ≤ parts }
-    requires most { parts ≤ 10 }
-    ensures { IfOk result (λ table. table.items ≡ replicate replicas (replicate parts 0)) }
-{
-    let mut table = Vec::new(alloc);
-    for _ in 0..replicas {
-        table.push(Stamp::zero(parts))?;
-    }
-    Ok(table)
-}
-
-fn copy_table(table: &[Stamp], alloc: Global) -> Result<Vec<Stamp>, NoMemory>
-    ensures { IfOk result (λ copied. copied.items ≡ table.now) }
-{
-    let mut copied = Vec::new(alloc);
-    for stamp in table {
-        copied.push(stamp.copy())?;
-    }
-    Ok(copied)
 }
 
 fn copy_held<O: Operation>(held: &[Call<O>], alloc: Global) -> Result<Vec<Call<O>>, NoMemory>

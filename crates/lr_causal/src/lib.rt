@@ -5,6 +5,7 @@ mod applying;
 mod calls;
 mod causal;
 mod gossip;
+mod heard;
 mod labels;
 mod lateness;
 mod savepoint;

@@ -41,7 +41,7 @@ impl<S: Service> Savepoint<S> {
 }
 
 /// Puts back the value of before the step, where the step changed it.
-pub(crate) fn put_back<S: Service>(value: &mut Value<S>, before: Option<Value<S>>)
+pub fn put_back<S: Service>(value: &mut Value<S>, before: Option<Value<S>>)
     ensures { value.new ≡ value_before before value.old }
 {
     if let Some(before) = before {

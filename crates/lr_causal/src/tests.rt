@@ -1,8 +1,15 @@
 //! The calls of a replica's causal part, with states worked out by hand.
+ghost use Rattle.std.specs.Prelude.{◌+◌, IfOk};
+ghost use Rattle.lr_base.specs.Rules.{CausalState};
+ghost use Rattle.lr_causal.specs.Causal.{IsGossip};
+ghost use Rattle.lr_causal.specs.Savepoint.{IsPointOf, Saved};
+ghost use Rattle.lr_causal.specs.State.{config_of, state_of};
+
 use crate::{Causal, late};
-use lr_base::lr_service::{Kind, Service};
-use lr_base::svc_tally::Tally;
+use lr_base::lr_service::{Kind, Operation, Service};
+use lr_base::svc_tally::{Tally, TallyOp};
 use lr_base::{Call, Cid, Config, Fresh, Gossip, LogAck, Rows, Spot, Stamp, Text};
+use lr_log::is_new;
 use std::alloc::Global;
 use std::process::Abort;
 use std::test::Fail;
@@ -53,7 +60,9 @@ fn accept(
     seq: u64,
     label: &[u64; 4],
     op: &str,
-) -> Result<(Spot, Stamp), Fail> {
+) -> Result<(Spot, Stamp), Fail>
+    ensures { (p : Saved Tally) (before : CausalState Tally TallyOp) → IsPointOf p (state_of replica.old) before → IsPointOf p (state_of replica.new) before }
+{
     let op = Tally::read_op(alloc, op.as_bytes())?;
     let prev = stamp(rt, replica.config().replicas, label);
     assert!(rt; prev.parts() == replica.config().replicas + 1);
@@ -94,7 +103,9 @@ fn hold(
     replica: &mut Causal<Tally>,
     seq: u64,
     label: &[u64; 4],
-) -> Result<(), Fail> {
+) -> Result<(), Fail>
+    ensures { (p : Saved Tally) (before : CausalState Tally TallyOp) → IsPointOf p (state_of replica.old) before → IsPointOf p (state_of replica.new) before }
+{
     let call = Call {
         cid: cid(seq),
         prev: stamp(rt, replica.config().replicas, label),
@@ -525,28 +536,41 @@ fn gossip_waits_for_its_causes(rt: HostRuntime) -> Result<(), Fail> {
     Ok(())
 }
 
+// Gossip of the second of three replicas, with two of its acknowledgements.
+fn gossip_of_acks(
+    rt: &impl Abort,
+    alloc: Global,
+    replica: &Causal<Tally>,
+    numbers: [u64; 2],
+) -> Result<Gossip<TallyOp>, Fail>
+    ensures { IfOk result (λ gossip. IsGossip ⟦<TallyOp as Operation>⟧.kind_of ((config_of replica.now).replicas + 1) gossip) }
+{
+    let rep_ts = stamp(rt, 3, &[0, numbers[1], 0, 0]);
+    assert!(rt; rep_ts.parts() == replica.config().replicas + 1);
+    let mut acks = Rows::new(alloc);
+    for number in numbers {
+        let spot = Spot { place: 1, number };
+        assert!(rt; !is_new(&rep_ts, spot));
+        acks.push(LogAck {
+            spot,
+            cid: cid(number),
+            time: 0,
+        })?;
+    }
+    Ok(Gossip {
+        rep_ts,
+        updates: Rows::new(alloc),
+        acks,
+    })
+}
+
 #[test]
 fn acknowledgements_come_with_gossip(rt: HostRuntime) -> Result<(), Fail> {
     let mut replica = replica(&rt, rt.alloc(), 3, 0)?;
     // (the numbers of the acknowledgements of the second replica, how many are new, how many are logged)
     for (numbers, new, logged) in [([1, 2], 2, 2), ([2, 3], 1, 3)] {
-        let mut acks = Rows::new(rt.alloc());
-        for number in numbers {
-            let spot = Spot { place: 1, number };
-            acks.push(LogAck {
-                spot,
-                cid: cid(number),
-                time: 0,
-            })?;
-        }
-        let rep_ts = stamp(&rt, 3, &[0, numbers[1], 0, 0]);
-        assert!(rt; rep_ts.parts() == replica.config().replicas + 1);
+        let gossip = gossip_of_acks(&rt, rt.alloc(), &replica, numbers)?;
         assert!(rt; 1 < replica.config().replicas);
-        let gossip = Gossip {
-            rep_ts,
-            updates: Rows::new(rt.alloc()),
-            acks,
-        };
         assert_eq!(rt; replica.take_gossip(1, &gossip)?, new);
         assert_eq!(rt; replica.log().acks().len(), logged);
         assert_eq!(rt; parts_of(replica.rep_ts()), [0, numbers[1], 0, 0]);
@@ -556,6 +580,69 @@ fn acknowledgements_come_with_gossip(rt: HostRuntime) -> Result<(), Fail> {
             Fresh::Settled => assert!(rt; settled, "call {seq} is settled"),
             _ => assert!(rt; !settled, "call {seq} is not settled"),
         }
+    }
+    Ok(())
+}
+
+// Checks that nothing has happened at one of two replicas.
+fn check_first(rt: &impl Abort, alloc: Global, replica: &Causal<Tally>) -> Result<(), Fail> {
+    assert_eq!(rt; parts_of(replica.rep_ts()), [0; 4]);
+    assert_eq!(rt; parts_of(replica.val_ts()), [0; 4]);
+    assert_eq!(rt; row(rt, replica, 0), [0; 4]);
+    assert_eq!(rt; replica.top(), 0);
+    assert_eq!(rt; replica.log().updates().len(), 0);
+    assert_eq!(rt; executed(alloc, replica)?.len(), 0);
+    assert_eq!(rt; replica.held().len(), 0);
+    let answer = read_x(rt, alloc, replica, &[0; 4])?.ok_or("no answer")?;
+    assert!(rt; answer.as_slice() == b"0".as_slice());
+    Ok(())
+}
+
+// Accepts an update, holds a query and applies the update, and undoes all three.
+fn accept_undone(rt: &impl Abort, alloc: Global, replica: &mut Causal<Tally>) -> Result<(), Fail> {
+    let mut point = replica.save()?;
+    let (spot, _stamp) = accept(rt, alloc, replica, 2, &[0; 4], "add x 4")?;
+    assert!(rt;
+        spot == Spot {
+            place: 1,
+            number: 1
+        }
+    );
+    hold(rt, alloc, replica, 3, &[1, 1, 0, 0])?;
+    replica.apply(&mut point)?;
+    let answer = read_x(rt, alloc, replica, &[0, 1, 0, 0])?.ok_or("no answer")?;
+    assert!(rt; answer.as_slice() == b"4".as_slice());
+    replica.restore(point);
+    Ok(())
+}
+
+// Takes gossip and applies it, and undoes both.
+fn gossip_undone(
+    rt: &impl Abort,
+    alloc: Global,
+    from: &Causal<Tally>,
+    replica: &mut Causal<Tally>,
+) -> Result<(), Fail> {
+    assert!(rt; from.config() == replica.config());
+    let gossip = from.make_gossip()?;
+    let mut point = replica.save()?;
+    assert_eq!(rt; replica.take_gossip(from.me(), &gossip)?, 1);
+    replica.apply(&mut point)?;
+    let answer = read_x(rt, alloc, replica, &[1, 0, 0, 0])?.ok_or("no answer")?;
+    assert!(rt; answer.as_slice() == b"3".as_slice());
+    replica.restore(point);
+    Ok(())
+}
+
+#[test]
+fn a_step_is_undone(rt: HostRuntime) -> Result<(), Fail> {
+    let told = replica_with(&rt, rt.alloc(), 0, 1, "add x 3")?;
+    let mut replica = replica(&rt, rt.alloc(), 2, 1)?;
+    for _ in 0..2 {
+        accept_undone(&rt, rt.alloc(), &mut replica)?;
+        check_first(&rt, rt.alloc(), &replica)?;
+        gossip_undone(&rt, rt.alloc(), &told, &mut replica)?;
+        check_first(&rt, rt.alloc(), &replica)?;
     }
     Ok(())
 }

@@ -1,6 +1,5 @@
 use Rattle.std.proofs.Common.{◌≡◌, ◌<◌, ◌+◌, ◌∙◌, ap, length, refl, arith}
 use Rattle.lr_base.specs.Kinds.{IsUpdate}
-use Rattle.lr_base.specs.Rules.{is_new}
 use Rattle.lr_log.specs.Items.{Items}
 use Rattle.lr_causal.specs.State.{state_of}
 use Rattle.lr_causal.proofs.Facts.{AllLogged-more, AllLogged-same}

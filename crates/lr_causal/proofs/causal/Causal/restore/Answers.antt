@@ -1,7 +1,6 @@
-use Rattle.std.proofs.Common.{◌≡◌, ◌+◌, ◌∙◌, ap, length, refl, sym}
+use Rattle.std.proofs.Common.{ap, refl}
 use Rattle.lr_causal.specs.Savepoint.{Saved}
-use Rattle.lr_causal.specs.State.{state_of}
-use Rattle.lr_causal.proofs.Facts.{AllLogged-along, AllLogged-filter}
+use Rattle.lr_causal.proofs.Facts.{AllLogged-filter}
 use Rattle.lr_causal.proofs.Received.{AllAcksReceived-stays, AllReceived-stays}
 use Rattle.lr_causal.proofs.StampRows.{AllStamps-along, AllStamps-count}
 use Rattle.lr_causal.proofs.Tables.{AllKnown-take}
@@ -20,7 +19,7 @@ invariant_of-self-clause-known g c = AllKnown-take _ c.point.inside.calls c.args
 
 pub invariant_of-self-clause-logged : goal.invariant_of-self-clause-logged
 invariant_of-self-clause-logged g c =
-    AllLogged-along g.S.Op.Operation.kind_of _ _ _ c.drop_new.new.self.updates c.drop_new.ensures.updates refl (AllLogged-filter g.S.Op.Operation.kind_of _ _ c.args.self.now.log.updates c.args.self.now.logged)
+    AllLogged-filter g.S.Op.Operation.kind_of _ _ c.args.self.now.log.updates c.drop_new.new.self.updates c.drop_new.ensures.updates c.args.self.now.logged
 
 pub invariant_of-self-clause-row_parts : goal.invariant_of-self-clause-row_parts
 invariant_of-self-clause-row_parts g c =

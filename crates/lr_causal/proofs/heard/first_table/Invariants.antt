@@ -1,5 +1,5 @@
 use Rattle.std.proofs.Common.{◌≡◌, replicate}
-use Rattle.lr_causal.proofs.causal.first_table.Given as goal
+use Rattle.lr_causal.proofs.heard.first_table.Given as goal
 
 -- as many as turns were made
 abbrev pub invariant-loop : goal.invariant-loop

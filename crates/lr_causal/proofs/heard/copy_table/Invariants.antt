@@ -1,5 +1,5 @@
 use Rattle.std.proofs.Common.{◌≡◌, take}
-use Rattle.lr_causal.proofs.causal.copy_table.Given as goal
+use Rattle.lr_causal.proofs.heard.copy_table.Given as goal
 
 -- as many as turns were made
 abbrev pub invariant-loop-stamp : goal.invariant-loop-stamp
