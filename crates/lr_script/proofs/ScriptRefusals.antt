@@ -18,8 +18,9 @@ use Rattle.lr_script.specs.Script.{Fits, IsSetUp, IsScript, HasHeader, IsNoScrip
 use Rattle.lr_script.specs.Texts.{event_text, header_text, config_text, service_text}
 use Rattle.lr_script.specs.Faults.{IsBadLine, IsBadHead, too_long, empty, bad_head, no_header, IsBadAt, IsHeadFault, IsLineFault, IsScriptFault}
 use Rattle.lr_script.proofs.Cuts.{field_one, number_spaceless, config_one, service_spaceless}
-use Rattle.lr_script.proofs.ShownTexts.{ArePrintable, header_printable, event_printable}
-use Rattle.lr_script.proofs.EventRefusals.{no_line_refuted, printable_cut, line_refuted}
+use Rattle.lr_script.proofs.ShownTexts.{ArePrintable, header_printable, event_fits, event_printable}
+use Rattle.lr_script.proofs.LineCuts.{no_line_refuted, printable_cut}
+use Rattle.lr_script.proofs.EventRefusals.{line_refuted}
 
 -- each element of a list is one of the first and each of the others
 all_first : {X : Type 0} (P : X → Type 0) (x : X) (xs : List X) → All P (x ∷ xs) → P x
@@ -39,10 +40,10 @@ never_empty (x ∷ line) more e = cc
 pub lines_refuted : {Value Op : Type 0} (m : Meaning Value Op) → ArePrintable m → (config : Config) → IsSetUp config → (events others : List (Event Op)) (rest : List ℕ) → All (Fits m config) events → All (Fits m config) others → events_text m others ≡ events_text m events ++ rest → 1 ≤ length rest → (cause : Cause) → IsBadLine m config rest cause → ⊥
 lines_refuted m ops config set [] [] rest fit fits e some cause bad = let none : length rest ≡ 0 = ap length (sym e) in omega arith
 lines_refuted m ops config set [] (o ∷ others) rest fit fits e some cause bad =
-    line_refuted m ops config set o (all_first (Fits m config) o others fits) rest (events_text m others) (sym e ∙ append_assoc (event_text m o) (10 ∷ []) (events_text m others)) cause bad
+    line_refuted m config set ops o (all_first (Fits m config) o others fits) rest (events_text m others) (sym e ∙ append_assoc (event_text m o) (10 ∷ []) (events_text m others)) cause bad
 lines_refuted m ops config set (x ∷ events) [] rest fit fits e some cause bad = never_empty (event_text m x) (events_text m events ++ rest) (e ∙ line_more (event_text m x) (events_text m events) rest)
 lines_refuted m ops config set (x ∷ events) (o ∷ others) rest fit fits e some cause bad =
-    let cut = printable_cut (event_text m o) (event_text m x) (events_text m others) (events_text m events ++ rest) (sym (append_assoc (event_text m o) (10 ∷ []) (events_text m others)) ∙ e ∙ line_more (event_text m x) (events_text m events) rest) (event_printable m ops config set o (all_first (Fits m config) o others fits)) (event_printable m ops config set x (all_first (Fits m config) x events fit)) in
+    let cut = printable_cut (event_text m o) (event_text m x) (events_text m others) (events_text m events ++ rest) (sym (append_assoc (event_text m o) (10 ∷ []) (events_text m others)) ∙ e ∙ line_more (event_text m x) (events_text m events) rest) (event_printable m ops o (event_fits m config set o (all_first (Fits m config) o others fits))) (event_printable m ops x (event_fits m config set x (all_first (Fits m config) x events fit))) in
     lines_refuted m ops config set events others rest (all_others (Fits m config) x events fit) (all_others (Fits m config) o others fits) cut.1 some cause bad
 
 same_config : (a b : Config) → a.replicas ≡ b.replicas → a.clients ≡ b.clients → a.delta ≡ b.delta → a ≡ b
