@@ -8,4 +8,5 @@ pub mod EventTexts
 pub mod EventRefusals
 pub mod FaultLemmas
 pub mod ScriptRefusals
+pub mod OneMeaning
 pub mod Refusing
