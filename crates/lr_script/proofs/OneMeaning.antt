@@ -1,5 +1,5 @@
 -- Bytes are the text of one header and one list of events, or are refused at one line for one cause.
-use Rattle.std.proofs.Common.{◌≡◌, ◌≢◌, ℕ, suc, ◌+◌, ◌<◌, ◌≤◌, ◌↔◌, ◌⊎◌, inl, inr, List, [], ◌∷◌, ◌++◌, length, append_assoc, Result, Ok, Err, refl, sym, ◌∙◌, ap, subst, arith}
+use Rattle.std.proofs.Common.{◌≡◌, ◌≢◌, ℕ, suc, ◌+◌, ◌≤◌, ◌↔◌, ◌⊎◌, inl, inr, List, [], ◌∷◌, ◌++◌, length, append_assoc, Result, Ok, Err, refl, sym, ◌∙◌, ap, subst, arith}
 use Rattle.std.specs.Prelude.{IfOk, IfErr}
 use Rattle.std.specs.List.{All}
 use Rattle.lr_base.specs.Meaning.{Meaning}
@@ -9,8 +9,8 @@ use Rattle.lr_script.specs.declared.refusals.Cause.{Cause}
 use Rattle.lr_script.specs.declared.refusals.ScriptFault.{ScriptFault}
 use Rattle.lr_script.specs.declared.refusals.ScriptFault.TheVariants.{Line, NoMemory}
 use Rattle.lr_script.specs.declared.heading.Header.{Header}
-use Rattle.lr_script.specs.Script.{EventFits, Fits, IsSetUp, IsScript, HasHeader, line_of, events_text}
-use Rattle.lr_script.specs.Texts.{event_text, header_text}
+use Rattle.lr_script.specs.Script.{EventFits, Fits, IsSetUp, IsScript, HasHeader, events_text}
+use Rattle.lr_script.specs.Texts.{event_text}
 use Rattle.lr_script.specs.Faults.{IsBadLine, IsBadHead, too_long, empty, bad_head, no_header, IsBadAt, IsHeadFault, IsScriptFault}
 use Rattle.lr_script.proofs.LineCuts.{no_line_one, no_line_refuted, printable_cut}
 use Rattle.lr_script.proofs.EventTexts.{HasOneText, event_cut}
@@ -88,3 +88,41 @@ module _ {Value Op : Type 0} (m : Meaning Value Op) (ops : ArePrintable m) where
   fault_one bytes line at a b (inl bad) (inr worse) = absurd (head_refuted bytes worse.header (at_head m bytes at b worse) worse.short line a bad)
   fault_one bytes line at a b (inr bad) (inl worse) = absurd (head_refuted bytes bad.header (at_head m bytes line a bad) bad.short at b worse)
   fault_one bytes line at a b (inr bad) (inr worse) = at_one bytes line at a b bad worse
+
+-- what was read of a header, without memory
+pub record HasReadHeader (bytes : List ℕ) (result : Result Header ScriptFault) : Type 0 where
+  pub ok : IfOk result (λ header. HasHeader header bytes)
+  pub short : IfOk result (λ header. length bytes ≤ 8388608)
+  pub err : IfErr result (IsHeadFault bytes)
+  pub memory : result ≢ Err NoMemory
+
+-- a header that was read is the only one that can be
+pub header_exactly : (bytes : List ℕ) (result : Result Header ScriptFault) → HasReadHeader bytes result → (header : Header) → (result ≡ Ok header) ↔ (HasHeader header bytes × (length bytes ≤ 8388608))
+header_exactly bytes (Ok header) has other = (
+  (λ e. let same : header ≡ other = cc in (subst (λ (it : Header). HasHeader it bytes) same has.ok, has.short)),
+  (λ is. ap Ok (head_one bytes header other has.ok.rest is.0.rest has.ok.valid is.0.valid has.ok.text is.0.text).0),
+)
+header_exactly bytes (Err (Line line cause)) has other = ((λ e. absurd (cc)), (λ is. absurd (head_refuted bytes other is.0 is.1 line cause has.err)))
+header_exactly bytes (Err NoMemory) has other = absurd (has.memory refl)
+
+-- and so is a fault
+pub head_fault_exactly : (bytes : List ℕ) (result : Result Header ScriptFault) → HasReadHeader bytes result → (line : ℕ) (cause : Cause) → (result ≡ Err (Line line cause)) ↔ IsBadHead bytes line cause
+head_fault_exactly bytes (Ok header) has line cause = ((λ e. absurd (cc)), (λ bad. absurd (head_refuted bytes header has.ok has.short line cause bad)))
+head_fault_exactly bytes (Err (Line at why)) has line cause = (
+  (λ e. let here : at ≡ line = cc in let same : why ≡ cause = cc in subst (λ (it : ℕ). IsBadHead bytes it cause) here (subst (λ (it : Cause). IsBadHead bytes at it) same has.err)),
+  (λ bad. let one = head_fault_one bytes at line why cause has.err bad in λ i. Err (Line (one.0 i) (one.1 i))),
+)
+head_fault_exactly bytes (Err NoMemory) has line cause = absurd (has.memory refl)
+
+module _ {Value Op : Type 0} (m : Meaning Value Op) (ops : ArePrintable m) (bytes : List ℕ) where
+  -- what was read of a script is what it says
+  pub script_exactly : HasOneText m → (result : Result (List (Event Op)) ScriptFault) → IfOk result (λ events. (header : Header) × IsScript m header events bytes) → IfErr result (IsScriptFault m bytes) → (header : Header) (events : List (Event Op)) → IsScript m header events bytes → (result ≡ Ok events) ⊎ (result ≡ Err NoMemory)
+  script_exactly texts (Ok read) ok err header events is = inl (ap Ok (script_one m ops texts bytes ok.0 header read events ok.1 is).1)
+  script_exactly texts (Err (Line line cause)) ok err header events is = absurd (refuted m ops bytes line cause err header events is)
+  script_exactly texts (Err NoMemory) ok err header events is = inr refl
+
+  -- and a fault is the one that the bytes have
+  pub fault_exactly : (result : Result (List (Event Op)) ScriptFault) → IfOk result (λ events. (header : Header) × IsScript m header events bytes) → IfErr result (IsScriptFault m bytes) → (line : ℕ) (cause : Cause) → IsScriptFault m bytes (Line line cause) → (result ≡ Err (Line line cause)) ⊎ (result ≡ Err NoMemory)
+  fault_exactly (Ok read) ok err line cause bad = absurd (refuted m ops bytes line cause bad ok.0 read ok.1)
+  fault_exactly (Err (Line at why)) ok err line cause bad = let one = fault_one m ops bytes at line why cause err bad in inl (λ i. Err (Line (one.0 i) (one.1 i)))
+  fault_exactly (Err NoMemory) ok err line cause bad = inr refl

@@ -25,8 +25,9 @@ pub fn scripts_have_one_meaning<S: Service>()
     ensures fault { (bytes : List ℕ) (line at : ℕ) (cause why : Cause)
         → IsScriptFault S.meaning bytes (Line line cause) → IsScriptFault S.meaning bytes (Line at why)
         → (line ≡ at) × (cause ≡ why) }
-    ensures apart { (bytes : List ℕ) (header : Header) (events : List (Event S.Op)) (line : ℕ) (cause : Cause)
-        → IsScript S.meaning header events bytes → ¬ (IsScriptFault S.meaning bytes (Line line cause)) }
+    ensures apart { (bytes : List ℕ) (header : Header) (events : List (Event S.Op))
+        (line : ℕ) (cause : Cause) → IsScript S.meaning header events bytes
+        → ¬ (IsScriptFault S.meaning bytes (Line line cause)) }
 {}
 
 /// A line is the text of one event, so what is printed of an event reads back as that event.
