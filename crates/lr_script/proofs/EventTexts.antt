@@ -1,4 +1,4 @@
--- An event's line: its word, and what stands behind it. It is that of one event.
+-- An event's line: its word, and what stands behind it. It is no other event's.
 use Rattle.std.proofs.Common.{◌≡◌, ℕ, get_or, ◌<◌, ◌≤◌, ◌^◌, true, List, ◌∷◌, ◌++◌, refl, sym, ◌∙◌, ap, arith}
 use Rattle.std.specs.Fmt.{decimal}
 use Rattle.std.proofs.lemmas.Fmt.{decimal_injective}

@@ -1,4 +1,4 @@
--- Bytes are the text of one header and one list of events, or are refused at one line for one cause.
+-- Bytes are the text of at most one header and list of events, and are refused at one line, for one cause.
 use Rattle.std.proofs.Common.{◌≡◌, ◌≢◌, ℕ, suc, ◌+◌, ◌≤◌, ◌↔◌, ◌⊎◌, inl, inr, List, [], ◌∷◌, ◌++◌, length, append_assoc, Result, Ok, Err, refl, sym, ◌∙◌, ap, subst, arith}
 use Rattle.std.specs.Prelude.{IfOk, IfErr}
 use Rattle.std.specs.List.{All}
@@ -38,7 +38,7 @@ head_fault_one bytes line at a b (no_header text later short e printable none) (
 head_fault_one bytes line at a b (no_header text later short e printable none) (no_header other more few is shown never) = (refl, refl)
 
 module _ {Value Op : Type 0} (m : Meaning Value Op) (ops : ArePrintable m) where
-  -- the lines are those of one list of events
+  -- lines are those of at most one list of events
   lines_one : HasOneText m → (events others : List (Event Op)) → All (EventFits m) events → All (EventFits m) others → events_text m events ≡ events_text m others → events ≡ others
   lines_one texts [] [] fit fits e = refl
   lines_one texts [] (o ∷ others) fit fits e = absurd (never_empty (event_text m o) (events_text m others) (e ∙ append_assoc (event_text m o) (10 ∷ []) (events_text m others)))
@@ -52,7 +52,7 @@ module _ {Value Op : Type 0} (m : Meaning Value Op) (ops : ArePrintable m) where
   all_fit : (config : Config) → IsSetUp config → (events : List (Event Op)) → All (Fits m config) events → All (EventFits m) events
   all_fit config set events fit = λ k d below. event_fits m config set _ (fit k d below)
 
-  -- bytes are one script
+  -- bytes are at most one script
   pub script_one : HasOneText m → (bytes : List ℕ) (header other : Header) (events more : List (Event Op)) → IsScript m header events bytes → IsScript m other more bytes → (header ≡ other) × (events ≡ more)
   script_one texts bytes header other events more is too =
       let one = head_one bytes header other (events_text m events) (events_text m more) is.valid too.valid is.text too.text in

@@ -16,8 +16,8 @@ pub fn what_is_refused_means_nothing<S: Service>()
     ensures { (bytes : List ℕ) (line : ℕ) (cause : Cause) → IsScriptFault S.meaning bytes (Line line cause) → IsRefusal S.meaning bytes line cause }
 {}
 
-/// Bytes are the text of one header and one list of events, or have one first bad line with one first cause at it,
-/// and never both.
+/// Bytes are the text of at most one header and list of events, and have at most one first bad line, with one first
+/// cause at it. No bytes are a script and have a bad line.
 pub fn scripts_have_one_meaning<S: Service>()
     ensures script { (bytes : List ℕ) (header other : Header) (events more : List (Event S.Op))
         → IsScript S.meaning header events bytes → IsScript S.meaning other more bytes
@@ -30,7 +30,7 @@ pub fn scripts_have_one_meaning<S: Service>()
         → ¬ (IsScriptFault S.meaning bytes (Line line cause)) }
 {}
 
-/// A line is the text of one event, so what is printed of an event reads back as that event.
+/// A line is the text of at most one event, so what is printed of an event can't be read as another.
 pub fn an_event_has_one_line<S: Service>()
     ensures line { (config : Config) (a b : Event S.Op) → IsSetUp config
         → Fits S.meaning config a → Fits S.meaning config b
