@@ -151,13 +151,13 @@ module _ {Value Op : Type 0} (m : Meaning Value Op) (texts : HasOneText m) where
   rest_one (Gossip _ _) _ fa fb word e = cc
   rest_one (Show _) _ fa fb word e = cc
 
-  -- a line is one event's
+  -- a line is at most one event's
   pub event_one : (a b : Event Op) → EventFits m a → EventFits m b → event_text m a ≡ event_text m b → a ≡ b
   event_one a b fa fb e =
       let cut = word_cut (event_word a) (event_word b) (event_rest m a) (event_rest m b) (sym (event_parts m a) ∙ e ∙ event_parts m b) in
       rest_one a b fa fb cut.0 cut.1
 
-  -- and it is the first in one way
+  -- and so is the first of several lines
   pub event_cut : ArePrintable m → (a b : Event Op) (x y : List ℕ) → EventFits m a → EventFits m b → event_text m a ++ 10 ∷ x ≡ event_text m b ++ 10 ∷ y → (a ≡ b) × (x ≡ y)
   event_cut ops a b x y fa fb e =
       let cut = printable_cut (event_text m a) (event_text m b) x y e (event_printable m ops a fa) (event_printable m ops b fb) in

@@ -56,9 +56,11 @@ const BAD_HEADERS: [(&str, u64, Cause); 35] = [
 ];
 
 // (the lines behind a header for one replica and one client, line, cause)
-const BAD_LINES: [(&str, u64, Cause); 91] = [
+const BAD_LINES: [(&str, u64, Cause); 93] = [
     ("deliver 1", 2, Cause::Unended),
     ("gossip 0 1", 2, Cause::Unended),
+    ("show 0", 2, Cause::Unended),
+    ("call 0 0 5 add x 3", 2, Cause::Unended),
     ("deliver\t1", 2, Cause::Unended),
     ("show 0\ndeliver 1", 3, Cause::Unended),
     ("deliver\t1\n", 2, Cause::Byte),
