@@ -1,25 +1,24 @@
 -- A history is told apart by its text.
-use Rattle.std.proofs.Common.{◌≡◌, ℕ, ◌+◌, Bool, true, false, not, ◌&&◌, eqb, leb, List, [], ◌∷◌, ◌++◌, get_or, drop, codes, refl, sym, ◌∙◌, ap, arith, append_assoc}
+use Rattle.std.proofs.Common.{◌≡◌, ℕ, ◌+◌, Bool, true, false, eqb, List, [], ◌∷◌, ◌++◌, get_or, drop, codes, refl, sym, ◌∙◌, ap, arith, append_assoc}
 use Rattle.std.specs.Fmt.{decimal}
 use Rattle.std.specs.List.{All, flat_map, list_all}
 use Rattle.std.proofs.lemmas.Bool.Decides.{nat_tests}
 use Rattle.std.proofs.lemmas.List.{append_cancel_left}
 use Rattle.std.proofs.lemmas.List.Elements.{All-head, All-tail}
-use Rattle.lr_base.specs.Meaning.{Meaning, Lawful, is_printable}
-use Rattle.lr_base.specs.declared.events.Event.TheVariants.{Call, Deliver, Gossip, Show}
+use Rattle.lr_base.specs.Meaning.{Meaning}
+use Rattle.lr_base.specs.declared.events.Event.{Event}
 use Rattle.lr_base.specs.declared.events.Outcome.{Outcome}
 use Rattle.lr_base.specs.declared.events.Step.{Step}
-use Rattle.lr_base.specs.declared.lr_service.Kind.{Kind}
 use Rattle.lr_base.specs.declared.names.Config.{Config}
 use Rattle.lr_report.specs.Printed.{outcome_text, outcome_line, steps_text, printed}
 use Rattle.lr_script.specs.Script.{line_of}
 use Rattle.lr_report.specs.Tellable.{OutcomeFits, EventFits, IsTellable}
 use Rattle.lr_script.specs.Texts.{event_text, header_text}
 use Rattle.lr_script.specs.declared.heading.Header.{Header}
-use Rattle.lr_script.specs.CutLaws.{all_head, all_tail, cut_one}
-use Rattle.lr_report.proofs.DigitsApart.{is_digit, decimal_digits, unlike}
-use Rattle.lr_report.proofs.FieldsApart.{TellsLine, number_first}
-use Rattle.lr_report.proofs.OutcomesApart.{number_last, outcome_apart}
+use Rattle.lr_script.specs.CutLaws.{all_head}
+use Rattle.lr_report.proofs.DigitsApart.{is_digit, decimal_digits}
+use Rattle.lr_report.proofs.FieldsApart.{TellsLine}
+use Rattle.lr_report.proofs.OutcomesApart.{outcome_apart}
 
 -- a line before other lines
 line_first : {A : Type 0} (Fits : A → Type 0) (text : A → List ℕ) → TellsLine Fits text → (a b : A) (s t z w : List ℕ) → Fits a → Fits b → (line_of (text a) ++ s) ++ z ≡ (line_of (text b) ++ t) ++ w → (a ≡ b) × (s ++ z ≡ t ++ w)
@@ -47,14 +46,6 @@ outcomes_apart replicas (a ∷ rows) (b ∷ others) x y fa fb hx hy same =
     let more = outcomes_apart replicas rows others x y (All-tail OutcomeFits a rows fa) (All-tail OutcomeFits b others fb) hx hy first.1 in
     (λ i. first.0 i ∷ more.0 i, more.1)
 
--- no printable byte is a line feed
-printable_feedless : (text : List ℕ) → is_printable text ≡ true → list_all (λ byte. not (eqb byte 10)) text ≡ true
-printable_feedless [] shown = refl
-printable_feedless (x ∷ text) shown =
-    let least : leb 32 x ≡ true = all_head (leb 32 x) (leb x 126) (all_head (leb 32 x && leb x 126) (is_printable text) shown) in
-    let test : eqb x 10 ≡ false = grind (arith, nat_tests) in
-    rw test (printable_feedless text (all_tail (leb 32 x && leb x 126) (is_printable text) shown))
-
 -- what begins with digits and a colon does not begin with a space
 colon_first : (front rest : List ℕ) → list_all is_digit front ≡ true → starts_with_space (front ++ 58 ∷ rest) ≡ false
 colon_first [] rest digits = refl
@@ -67,35 +58,11 @@ never_empty : (front rest : List ℕ) → [] ≡ front ++ 58 ∷ rest → ⊥
 never_empty [] rest same = cc
 never_empty (x ∷ front) rest same = cc
 
-module _ {Value Op : Type 0} (m : Meaning Value Op) (kind_of : Op → Kind) (lawful : Lawful m kind_of) where
-  -- events
-  event_apart : TellsLine (EventFits m) (event_text m)
-  event_apart (Call client replica reading op) (Call other place now act) x y fa fb same =
-      let first = number_first client other _ _ _ _ fa.0 fb.0 (ap (drop 5) same) refl refl in
-      let second = number_first replica place _ _ _ _ fa.1 fb.1 (ap (drop 1) first.1) refl refl in
-      let third = number_first reading now _ _ _ _ fa.2 fb.2 (ap (drop 1) second.1) refl refl in
-      let last = cut_one (λ byte. not (eqb byte 10)) 10 refl (m.text op) (m.text act) x y (ap (drop 1) third.1) (printable_feedless (m.text op) (lawful.printable_text op fa.3)) (printable_feedless (m.text act) (lawful.printable_text act fb.3)) in
-      let one = lawful.one_text op act fa.3 fb.3 last.0 in
-      (λ i. Call (first.0 i) (second.0 i) (third.0 i) (one i), last.1)
-  event_apart (Deliver message) (Deliver other) x y fa fb same =
-      let last = number_last message other x y fa fb (ap (drop 8) same) in
-      (ap Deliver last.0, last.1)
-  event_apart (Show replica) (Show other) x y fa fb same =
-      let last = number_last replica other x y fa fb (ap (drop 5) same) in
-      (ap Show last.0, last.1)
-  event_apart (Gossip from to) (Gossip other target) x y fa fb same =
-      let first = number_first from other _ _ _ _ fa.0 fb.0 (ap (drop 7) same) refl refl in
-      let last = number_last to target x y fa.1 fb.1 (ap (drop 1) first.1) in
-      (λ i. Gossip (first.0 i) (last.0 i), last.1)
-  event_apart (Gossip _ _) _ x y fa fb same = unlike 0 _ _ refl same
-  event_apart _ (Gossip _ _) x y fa fb same = unlike 0 _ _ refl same
-  event_apart (Call _ _ _ _) (Deliver _) x y fa fb same = unlike 0 _ _ refl same
-  event_apart (Call _ _ _ _) (Show _) x y fa fb same = unlike 0 _ _ refl same
-  event_apart (Deliver _) (Call _ _ _ _) x y fa fb same = unlike 0 _ _ refl same
-  event_apart (Deliver _) (Show _) x y fa fb same = unlike 0 _ _ refl same
-  event_apart (Show _) (Call _ _ _ _) x y fa fb same = unlike 0 _ _ refl same
-  event_apart (Show _) (Deliver _) x y fa fb same = unlike 0 _ _ refl same
+-- events are told apart by their lines, before other lines
+abbrev pub TellsEvents : {Value Op : Type 0} → Meaning Value Op → Type 0
+TellsEvents {Value} {Op} m = (a b : Event Op) (x y : List ℕ) → EventFits m a → EventFits m b → line_of (event_text m a) ++ x ≡ line_of (event_text m b) ++ y → (a ≡ b) × (x ≡ y)
 
+module _ {Value Op : Type 0} (m : Meaning Value Op) (tells : TellsEvents m) where
   -- what stands behind the number of the first of several steps
   behind : (config : Config) (number : ℕ) (step : Step Op) (steps : List (Step Op)) → List ℕ
   behind config number step steps = codes ": " ++ ((line_of (event_text m step.event) ++ flat_map (outcome_line config.replicas) step.outcomes) ++ steps_text m config (number + 1) steps)
@@ -121,7 +88,7 @@ module _ {Value Op : Type 0} (m : Meaning Value Op) (kind_of : Op → Kind) (law
       let here = All-head (IsTellable m) a steps fa in
       let there = All-head (IsTellable m) b others fb in
       let bodies = append_cancel_left (decimal number) (behind config number a steps) (behind config number b others) (sym (number_and_behind config number a steps) ∙ same ∙ number_and_behind config number b others) in
-      let first = line_first (EventFits m) (event_text m) event_apart a.event b.event _ _ _ _ here.0 there.0 (ap (drop 2) bodies) in
+      let first = tells a.event b.event _ _ here.0 there.0 (sym (append_assoc (line_of (event_text m a.event)) _ _) ∙ ap (drop 2) bodies ∙ append_assoc (line_of (event_text m b.event)) _ _) in
       let second = outcomes_apart config.replicas a.outcomes b.outcomes _ _ here.1 there.1 (no_space config (number + 1) steps) (no_space config (number + 1) others) first.1 in
       let more = steps_apart config (number + 1) steps others (All-tail (IsTellable m) a steps fa) (All-tail (IsTellable m) b others fb) second.1 in
       λ i. record { event = first.0 i; outcomes = second.0 i } ∷ more i

@@ -1,9 +1,7 @@
 -- What a printed history has to keep to, so that its text tells it from others: its numbers fit, its operations are real, and no answer holds a line feed.
-use Rattle.std.specs.Prelude.{◌≡◌, ◌≢◌, ℕ, ◌<◌, ◌^◌, true, List}
+use Rattle.std.specs.Prelude.{◌≢◌, ℕ, ◌<◌, ◌^◌, List}
 use Rattle.std.specs.List.{All}
 use Rattle.lr_base.specs.Meaning.{Meaning}
-use Rattle.lr_base.specs.declared.events.Event.{Event}
-use Rattle.lr_base.specs.declared.events.Event.TheVariants.{Call, Deliver, Gossip as GossipEvent, Show}
 use Rattle.lr_base.specs.declared.events.Outcome.{Outcome}
 use Rattle.lr_base.specs.declared.events.Outcome.TheVariants.{Send, Accept, Hold, Take, Got, Stale, NoMessage, Refuse, State}
 use Rattle.lr_base.specs.declared.events.Refusal.{Refusal}
@@ -16,6 +14,7 @@ use Rattle.lr_base.specs.declared.names.Actor.{Actor}
 use Rattle.lr_base.specs.declared.names.Actor.TheVariants.{Client, Replica}
 use Rattle.lr_base.specs.declared.names.Cid.{Cid}
 use Rattle.lr_base.specs.declared.names.Spot.{Spot}
+pub use Rattle.lr_script.specs.Script.{EventFits}
 
 -- a number fits in 64 bits
 abbrev pub NumberFits : ℕ → Type 0
@@ -83,13 +82,6 @@ OutcomeFits (Stale cid) = CidFits cid
 OutcomeFits (NoMessage message) = NumberFits message
 OutcomeFits (Refuse why) = RefusalFits why
 OutcomeFits (State line) = StateFits line
-
--- an event's numbers fit, and it calls an operation of the service
-abbrev pub EventFits : {Value Op : Type 0} → Meaning Value Op → Event Op → Type 0
-EventFits m (Call client replica reading op) = NumberFits client × NumberFits replica × NumberFits reading × (m.is_op op ≡ true)
-EventFits m (Deliver message) = NumberFits message
-EventFits m (GossipEvent from to) = NumberFits from × NumberFits to
-EventFits m (Show replica) = NumberFits replica
 
 -- an event and what it did keep to all this
 abbrev pub IsTellable : {Value Op : Type 0} → Meaning Value Op → Step Op → Type 0

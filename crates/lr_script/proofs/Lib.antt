@@ -1,8 +1,12 @@
 pub mod Splits
 pub mod Cuts
 pub mod Printables
+pub mod LineCuts
+pub mod Checks
 pub mod ShownTexts
+pub mod EventTexts
 pub mod EventRefusals
 pub mod FaultLemmas
 pub mod ScriptRefusals
+pub mod OneMeaning
 pub mod Refusing

@@ -18,20 +18,21 @@ use Rattle.lr_script.specs.Script.{Fits, IsSetUp, IsScript, HasHeader, IsNoScrip
 use Rattle.lr_script.specs.Texts.{event_text, header_text, config_text, service_text}
 use Rattle.lr_script.specs.Faults.{IsBadLine, IsBadHead, too_long, empty, bad_head, no_header, IsBadAt, IsHeadFault, IsLineFault, IsScriptFault}
 use Rattle.lr_script.proofs.Cuts.{field_one, number_spaceless, config_one, service_spaceless}
-use Rattle.lr_script.proofs.ShownTexts.{ArePrintable, header_printable, event_printable}
-use Rattle.lr_script.proofs.EventRefusals.{no_line_refuted, printable_cut, line_refuted}
+use Rattle.lr_script.proofs.ShownTexts.{ArePrintable, header_printable, event_fits, event_printable}
+use Rattle.lr_script.proofs.LineCuts.{no_line_refuted, printable_cut}
+use Rattle.lr_script.proofs.EventRefusals.{line_refuted}
 
 -- each element of a list is one of the first and each of the others
-all_first : {X : Type 0} (P : X → Type 0) (x : X) (xs : List X) → All P (x ∷ xs) → P x
+pub all_first : {X : Type 0} (P : X → Type 0) (x : X) (xs : List X) → All P (x ∷ xs) → P x
 all_first P x xs h = h 0 x (omega arith)
 
-all_others : {X : Type 0} (P : X → Type 0) (x : X) (xs : List X) → All P (x ∷ xs) → All P xs
+pub all_others : {X : Type 0} (P : X → Type 0) (x : X) (xs : List X) → All P (x ∷ xs) → All P xs
 all_others P x xs h = λ k d below. h (suc k) d (omega arith)
 
-line_more : (line more rest : List ℕ) → ((line ++ 10 ∷ []) ++ more) ++ rest ≡ line ++ 10 ∷ (more ++ rest)
+pub line_more : (line more rest : List ℕ) → ((line ++ 10 ∷ []) ++ more) ++ rest ≡ line ++ 10 ∷ (more ++ rest)
 line_more line more rest = simp append_assoc
 
-never_empty : (line more : List ℕ) → [] ≢ line ++ 10 ∷ more
+pub never_empty : (line more : List ℕ) → [] ≢ line ++ 10 ∷ more
 never_empty [] more e = cc
 never_empty (x ∷ line) more e = cc
 
@@ -39,10 +40,10 @@ never_empty (x ∷ line) more e = cc
 pub lines_refuted : {Value Op : Type 0} (m : Meaning Value Op) → ArePrintable m → (config : Config) → IsSetUp config → (events others : List (Event Op)) (rest : List ℕ) → All (Fits m config) events → All (Fits m config) others → events_text m others ≡ events_text m events ++ rest → 1 ≤ length rest → (cause : Cause) → IsBadLine m config rest cause → ⊥
 lines_refuted m ops config set [] [] rest fit fits e some cause bad = let none : length rest ≡ 0 = ap length (sym e) in omega arith
 lines_refuted m ops config set [] (o ∷ others) rest fit fits e some cause bad =
-    line_refuted m ops config set o (all_first (Fits m config) o others fits) rest (events_text m others) (sym e ∙ append_assoc (event_text m o) (10 ∷ []) (events_text m others)) cause bad
+    line_refuted m config set ops o (all_first (Fits m config) o others fits) rest (events_text m others) (sym e ∙ append_assoc (event_text m o) (10 ∷ []) (events_text m others)) cause bad
 lines_refuted m ops config set (x ∷ events) [] rest fit fits e some cause bad = never_empty (event_text m x) (events_text m events ++ rest) (e ∙ line_more (event_text m x) (events_text m events) rest)
 lines_refuted m ops config set (x ∷ events) (o ∷ others) rest fit fits e some cause bad =
-    let cut = printable_cut (event_text m o) (event_text m x) (events_text m others) (events_text m events ++ rest) (sym (append_assoc (event_text m o) (10 ∷ []) (events_text m others)) ∙ e ∙ line_more (event_text m x) (events_text m events) rest) (event_printable m ops config set o (all_first (Fits m config) o others fits)) (event_printable m ops config set x (all_first (Fits m config) x events fit)) in
+    let cut = printable_cut (event_text m o) (event_text m x) (events_text m others) (events_text m events ++ rest) (sym (append_assoc (event_text m o) (10 ∷ []) (events_text m others)) ∙ e ∙ line_more (event_text m x) (events_text m events) rest) (event_printable m ops o (event_fits m config set o (all_first (Fits m config) o others fits))) (event_printable m ops x (event_fits m config set x (all_first (Fits m config) x events fit))) in
     lines_refuted m ops config set events others rest (all_others (Fits m config) x events fit) (all_others (Fits m config) o others fits) cut.1 some cause bad
 
 same_config : (a b : Config) → a.replicas ≡ b.replicas → a.clients ≡ b.clients → a.delta ≡ b.delta → a ≡ b
@@ -78,14 +79,23 @@ head_one bytes a b more rest set other ea eb =
     let cut = printable_cut (header_text a) (header_text b) more rest (sym (append_assoc (header_text a) (10 ∷ []) more) ∙ sym ea ∙ eb ∙ append_assoc (header_text b) (10 ∷ []) rest) (header_printable a set) (header_printable b other) in
     (header_one a b set other cut.0, cut.1)
 
-head_refuted : {Value Op : Type 0} (m : Meaning Value Op) (bytes : List ℕ) (header : Header) (events : List (Event Op)) → IsScript m header events bytes → (line : ℕ) (cause : Cause) → IsBadHead bytes line cause → ⊥
-head_refuted m bytes header events is line cause (too_long h) = let short = is.short in omega arith
-head_refuted m bytes header events is line cause (empty e) = never_empty (header_text header) (events_text m events) (sym e ∙ is.text ∙ append_assoc (header_text header) (10 ∷ []) (events_text m events))
-head_refuted m bytes header events is line cause (bad_head why short some bad) =
-    no_line_refuted bytes (header_text header) (events_text m events) why (is.text ∙ append_assoc (header_text header) (10 ∷ []) (events_text m events)) (header_printable header is.valid) bad
-head_refuted m bytes header events is line cause (no_header text later short e printable none) =
-    let cut = printable_cut text (header_text header) later (events_text m events) (sym e ∙ is.text ∙ append_assoc (header_text header) (10 ∷ []) (events_text m events)) printable (header_printable header is.valid) in
-    none header is.valid cut.0
+-- few enough bytes that begin with a header's line are not refused for want of one
+pub head_refuted : (bytes : List ℕ) (header : Header) → HasHeader header bytes → length bytes ≤ 8388608 → (line : ℕ) (cause : Cause) → IsBadHead bytes line cause → ⊥
+head_refuted bytes header has short line cause (too_long h) = omega arith
+head_refuted bytes header has short line cause (empty e) = never_empty (header_text header) has.rest (sym e ∙ has.text ∙ append_assoc (header_text header) (10 ∷ []) has.rest)
+head_refuted bytes header has short line cause (bad_head why few some bad) =
+    no_line_refuted bytes (header_text header) has.rest why (has.text ∙ append_assoc (header_text header) (10 ∷ []) has.rest) (header_printable header has.valid) bad
+head_refuted bytes header has short line cause (no_header text later few e printable none) =
+    let cut = printable_cut text (header_text header) later has.rest (sym e ∙ has.text ∙ append_assoc (header_text header) (10 ∷ []) has.rest) printable (header_printable header has.valid) in
+    none header has.valid cut.0
+
+-- a script's bytes begin with its header's line
+script_head : {Value Op : Type 0} (m : Meaning Value Op) (header : Header) (events : List (Event Op)) (bytes : List ℕ) → IsScript m header events bytes → HasHeader header bytes
+script_head m header events bytes is = record { valid = is.valid; rest = events_text m events; text = is.text }
+
+-- and so do those with a bad line behind a header's
+pub at_head : {Value Op : Type 0} (m : Meaning Value Op) (bytes : List ℕ) (line : ℕ) (cause : Cause) → (at : IsBadAt m bytes line cause) → HasHeader at.header bytes
+at_head m bytes line cause at = record { valid = at.valid; rest = at.lines; text = at.text }
 
 at_refuted : {Value Op : Type 0} (m : Meaning Value Op) → ArePrintable m → (bytes : List ℕ) (header : Header) (events : List (Event Op)) → IsScript m header events bytes → (line : ℕ) (cause : Cause) → IsBadAt m bytes line cause → ⊥
 at_refuted {Value} {Op} m ops bytes header events is line cause at =
@@ -96,7 +106,7 @@ at_refuted {Value} {Op} m ops bytes header events is line cause at =
 
 -- bytes that are refused are no script
 pub refuted : {Value Op : Type 0} (m : Meaning Value Op) → ArePrintable m → (bytes : List ℕ) (line : ℕ) (cause : Cause) → IsScriptFault m bytes (Line line cause) → IsNoScript m bytes
-refuted m ops bytes line cause (inl bad) = λ header events is. head_refuted m bytes header events is line cause bad
+refuted m ops bytes line cause (inl bad) = λ header events is. head_refuted bytes header (script_head m header events bytes is) is.short line cause bad
 refuted m ops bytes line cause (inr bad) = λ header events is. at_refuted m ops bytes header events is line cause bad
 
 -- a script has the header that its bytes begin with

@@ -10,7 +10,7 @@ use Rattle.lr_base.specs.declared.events.Event.TheVariants.{Call, Deliver, Gossi
 use Rattle.lr_base.specs.declared.names.Config.{Config}
 use Rattle.lr_script.specs.declared.heading.Header.{Header}
 use Rattle.lr_script.specs.declared.heading.Name.TheVariants.{Tally}
-use Rattle.lr_script.specs.Script.{Fits, IsSetUp}
+use Rattle.lr_script.specs.Script.{EventFits, Fits, IsSetUp}
 use Rattle.lr_script.specs.Texts.{event_text, header_text, config_text, service_text}
 
 -- two tests that pass
@@ -40,16 +40,22 @@ config_printable config set =
 pub header_printable : (header : Header) → IsSetUp header.config → is_printable (header_text header) ≡ true
 header_printable header set = elim header.service as (λ service. is_printable (service_text service ++ 32 ∷ config_text header.config) ≡ true) [ Tally ↦ config_printable header.config set ]
 
--- each operation's text is printable, and no two operations have one text
+-- each operation's text is printable
 abbrev pub ArePrintable : {Value Op : Type 0} → Meaning Value Op → Type 0
 ArePrintable {Value} {Op} m = (op : Op) → m.is_op op ≡ true → is_printable (m.text op) ≡ true
 
-pub event_printable : {Value Op : Type 0} (m : Meaning Value Op) → ArePrintable m → (config : Config) → IsSetUp config → (event : Event Op) → Fits m config event → is_printable (event_text m event) ≡ true
-event_printable m ops config set (Call client replica reading op) fits =
-    printable_more (decimal client) (32 ∷ (decimal replica ++ 32 ∷ (decimal reading ++ 32 ∷ m.text op))) (number_printable client (omega (arith, fits.0)))
-    (printable_more (decimal replica) (32 ∷ (decimal reading ++ 32 ∷ m.text op)) (number_printable replica (omega (arith, fits.1)))
+-- the events of a run have numbers that fit
+pub event_fits : {Value Op : Type 0} (m : Meaning Value Op) (config : Config) → IsSetUp config → (event : Event Op) → Fits m config event → EventFits m event
+event_fits m config set (Call client replica reading op) fits = (omega (arith, fits.0), omega (arith, fits.1), fits.2, fits.3)
+event_fits m config set (Deliver message) fits = fits
+event_fits m config set (Gossip from to) fits = (omega (arith, fits.0), omega (arith, fits.1))
+event_fits m config set (Show replica) fits = omega (arith, fits)
+
+pub event_printable : {Value Op : Type 0} (m : Meaning Value Op) → ArePrintable m → (event : Event Op) → EventFits m event → is_printable (event_text m event) ≡ true
+event_printable m ops (Call client replica reading op) fits =
+    printable_more (decimal client) (32 ∷ (decimal replica ++ 32 ∷ (decimal reading ++ 32 ∷ m.text op))) (number_printable client fits.0)
+    (printable_more (decimal replica) (32 ∷ (decimal reading ++ 32 ∷ m.text op)) (number_printable replica fits.1)
     (printable_more (decimal reading) (32 ∷ m.text op) (number_printable reading fits.2) (ops op fits.3)))
-event_printable m ops config set (Deliver message) fits = number_printable message fits
-event_printable m ops config set (Gossip from to) fits =
-    printable_more (decimal from) (32 ∷ decimal to) (number_printable from (omega (arith, fits.0))) (number_printable to (omega (arith, fits.1)))
-event_printable m ops config set (Show replica) fits = number_printable replica (omega (arith, fits))
+event_printable m ops (Deliver message) fits = number_printable message fits
+event_printable m ops (Gossip from to) fits = printable_more (decimal from) (32 ∷ decimal to) (number_printable from fits.0) (number_printable to fits.1)
+event_printable m ops (Show replica) fits = number_printable replica fits

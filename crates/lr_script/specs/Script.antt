@@ -33,6 +33,13 @@ Fits m config (Deliver message) = message < 2 ^ 64
 Fits m config (Gossip from to) = (from < config.replicas) × (to < config.replicas) × (from ≢ to)
 Fits m config (Show replica) = replica < config.replicas
 
+-- an event's numbers fit in 64 bits, and it calls an operation of the service
+abbrev pub EventFits : {Value Op : Type 0} → Meaning Value Op → Event Op → Type 0
+EventFits m (Call client replica reading op) = (client < 2 ^ 64) × (replica < 2 ^ 64) × (reading < 2 ^ 64) × (m.is_op op ≡ true)
+EventFits m (Deliver message) = message < 2 ^ 64
+EventFits m (Gossip from to) = (from < 2 ^ 64) × (to < 2 ^ 64)
+EventFits m (Show replica) = replica < 2 ^ 64
+
 -- the bytes begin with this header's line
 pub record HasHeader (header : Header) (bytes : List ℕ) : Type 0 where
   pub valid : IsSetUp header.config

@@ -1,8 +1,10 @@
 //! The whole script, read from its bytes.
-ghost use Rattle.std.specs.Prelude.{◌≡◌, ◌+◌, ◌<◌, ◌≤◌, ◌++◌, ◌↔◌, length, IfOk, IfErr};
+ghost use Rattle.std.specs.Prelude.{◌≡◌, ◌≢◌, ℕ, ◌+◌, ◌<◌, ◌≤◌, ◌++◌, ◌↔◌, ◌⊎◌, List, length, IfOk, IfErr};
 ghost use Rattle.std.specs.List.{All};
+ghost use Rattle.lr_base.specs.declared.events.Event.{Event};
 ghost use Rattle.lr_script.specs.declared.heading.Header.{Header};
-ghost use Rattle.lr_script.specs.Faults.{IsFaultAt, IsBadLine, IsHeadFault, IsLineFault, IsRefused, IsScriptFault};
+ghost use Rattle.lr_script.specs.declared.refusals.Cause.{Cause};
+ghost use Rattle.lr_script.specs.Faults.{IsBadHead, IsFaultAt, IsBadLine, IsHeadFault, IsLineFault, IsRefused, IsScriptFault};
 ghost use Rattle.lr_script.specs.Script.{Fits, IsSetUp, IsScript, HasHeader, line_of, events_text};
 ghost use Rattle.lr_script.specs.Texts.{event_text, header_text};
 
@@ -22,6 +24,13 @@ pub fn read_header(bytes: &[u8]) -> Result<Header, ScriptFault>
     ensures ok { IfOk result (λ header. HasHeader header bytes.now) }
     ensures long { (result ≡ Err (ScriptFault.Line 0 Cause.TooLong)) ↔ (8388608 < length bytes.now) }
     ensures err { IfErr result (IsHeadFault bytes.now) }
+
+    // No memory is taken, and the answer is the one that the bytes allow.
+    ensures memory { result ≢ Err ScriptFault.NoMemory }
+    ensures header { (header : Header)
+        → (result ≡ Ok header) ↔ (HasHeader header bytes.now × (length bytes.now ≤ 8388608)) }
+    ensures fault { (line : ℕ) (cause : Cause)
+        → (result ≡ Err (ScriptFault.Line line cause)) ↔ IsBadHead bytes.now line cause }
 {
     let (header, _lines) = split_header(bytes)?;
     Ok(header)
@@ -37,6 +46,14 @@ pub fn read_script<S: Service>(
     ensures same { (header : Header) → HasHeader header bytes.now → IfOk result (λ events. IsScript S.meaning header events bytes.now) }
     ensures err { IfErr result (IsScriptFault S.meaning bytes.now) }
     ensures refused { IfErr result (IsRefused S.meaning bytes.now) }
+
+    // Where there is memory, the answer is the one that the bytes allow.
+    ensures whole { (header : Header) (events : List (Event S.Op))
+        → IsScript S.meaning header events bytes.now
+        → (result ≡ Ok events) ⊎ (result ≡ Err ScriptFault.NoMemory) }
+    ensures exact { (line : ℕ) (cause : Cause)
+        → IsScriptFault S.meaning bytes.now (ScriptFault.Line line cause)
+        → (result ≡ Err (ScriptFault.Line line cause)) ⊎ (result ≡ Err ScriptFault.NoMemory) }
 {
     match split_header(bytes) {
         Ok((header, lines)) => read_events::<S>(alloc, header.config, lines),
@@ -51,6 +68,7 @@ fn split_header(bytes: &[u8]) -> Result<(Header, &[u8]), ScriptFault>
     ensures short { IfOk result (λ parts. length bytes.now ≤ 8388608) }
     ensures long { (result ≡ Err (ScriptFault.Line 0 Cause.TooLong)) ↔ (8388608 < length bytes.now) }
     ensures err { IfErr result (IsHeadFault bytes.now) }
+    ensures memory { result ≢ Err ScriptFault.NoMemory }
 {
     if MOST_BYTES < bytes.len() {
         return Err(ScriptFault::Line {

@@ -9,7 +9,7 @@ use std::test::Fail;
 const HEADER: &str = "lazyrep 1 tally 1 1 10\n";
 
 // (bytes, line, cause)
-const BAD_HEADERS: [(&str, u64, Cause); 31] = [
+const BAD_HEADERS: [(&str, u64, Cause); 35] = [
     ("", 1, Cause::Header),
     ("lazyrep 1 tally 1 1 10", 1, Cause::Unended),
     ("lazyrep 1 mail 1 1 10", 1, Cause::Unended),
@@ -44,19 +44,32 @@ const BAD_HEADERS: [(&str, u64, Cause); 31] = [
     ("lazyrep 1 tally 1 1  10\n", 1, Cause::Header),
     ("lazyrep 1 tally 1 1\n", 1, Cause::Header),
     ("lazyrep 1 tally 1 1 \n", 1, Cause::Header),
+    ("lazyrep 1 tally\n", 1, Cause::Header),
+    ("lazyrep 1 tally 1 1 10 5\n", 1, Cause::Header),
+    (
+        "lazyrep 1 tally 18446744073709551616 1 10\n",
+        1,
+        Cause::Header,
+    ),
+    ("lazyrep 1 mail 1 1 10\nshow\t0\n", 1, Cause::Header),
     ("show 0\n", 1, Cause::Header),
 ];
 
 // (the lines behind a header for one replica and one client, line, cause)
-const BAD_LINES: [(&str, u64, Cause); 53] = [
+const BAD_LINES: [(&str, u64, Cause); 93] = [
     ("deliver 1", 2, Cause::Unended),
     ("gossip 0 1", 2, Cause::Unended),
+    ("show 0", 2, Cause::Unended),
+    ("call 0 0 5 add x 3", 2, Cause::Unended),
     ("deliver\t1", 2, Cause::Unended),
     ("show 0\ndeliver 1", 3, Cause::Unended),
     ("deliver\t1\n", 2, Cause::Byte),
     ("deliver 1\r\n", 2, Cause::Byte),
     ("deliver 1\x7f\n", 2, Cause::Byte),
     ("gossip 0\x1f1\n", 2, Cause::Byte),
+    ("show 0\x00\n", 2, Cause::Byte),
+    ("call 0 0 5 add\x00x 3\n", 2, Cause::Byte),
+    ("fly\x7f\n", 2, Cause::Byte),
     ("\n", 2, Cause::Event),
     (" \n", 2, Cause::Event),
     (" deliver 1\n", 2, Cause::Event),
@@ -66,6 +79,12 @@ const BAD_LINES: [(&str, u64, Cause); 53] = [
     ("calls 0 0 5 add x 3\n", 2, Cause::Event),
     ("cal 0 0 5 add x 3\n", 2, Cause::Event),
     ("lazyrep 1 tally 1 1 10\n", 2, Cause::Event),
+    ("show 0\n\nshow 0\n", 3, Cause::Event),
+    ("tick 0 1\n", 2, Cause::Event),
+    ("ack 0 0 5\n", 2, Cause::Event),
+    ("view 0\n", 2, Cause::Event),
+    ("restart 0\n", 2, Cause::Event),
+    ("shows 0\n", 2, Cause::Event),
     ("deliver\n", 2, Cause::Fields),
     ("deliver 1 \n", 2, Cause::Fields),
     ("deliver 1 2\n", 2, Cause::Fields),
@@ -78,6 +97,9 @@ const BAD_LINES: [(&str, u64, Cause); 53] = [
     ("call\n", 2, Cause::Fields),
     ("call 0 0 5\n", 2, Cause::Fields),
     ("call x 9 05\n", 2, Cause::Fields),
+    ("gossip 0 0 0\n", 2, Cause::Fields),
+    ("show 0 \n", 2, Cause::Fields),
+    ("call 0 0 \n", 2, Cause::Fields),
     ("deliver \n", 2, Cause::Number),
     ("deliver 01\n", 2, Cause::Number),
     ("deliver -1\n", 2, Cause::Number),
@@ -91,6 +113,21 @@ const BAD_LINES: [(&str, u64, Cause); 53] = [
     ("call 0  5 add x 1\n", 2, Cause::Number),
     ("call 1 1 x sub x 1\n", 2, Cause::Number),
     ("call c0 0 5 add x 1\n", 2, Cause::Number),
+    ("gossip  0\n", 2, Cause::Number),
+    ("gossip 0 \n", 2, Cause::Number),
+    ("gossip 01 0\n", 2, Cause::Number),
+    ("gossip 0 01\n", 2, Cause::Number),
+    ("gossip 18446744073709551616 0\n", 2, Cause::Number),
+    ("gossip 0 18446744073709551616\n", 2, Cause::Number),
+    ("show \n", 2, Cause::Number),
+    ("show 01\n", 2, Cause::Number),
+    ("show 18446744073709551616\n", 2, Cause::Number),
+    ("call 01 0 5 add x 1\n", 2, Cause::Number),
+    ("call 0 00 5 add x 1\n", 2, Cause::Number),
+    ("call 0 0  add x 1\n", 2, Cause::Number),
+    ("call 18446744073709551616 0 5 add x 1\n", 2, Cause::Number),
+    ("call 0 18446744073709551616 5 add x 1\n", 2, Cause::Number),
+    ("call 0 0 18446744073709551616 add x 1\n", 2, Cause::Number),
     ("gossip 0 1\n", 2, Cause::Range),
     ("gossip 1 0\n", 2, Cause::Range),
     ("gossip 0 0\n", 2, Cause::Range),
@@ -99,8 +136,19 @@ const BAD_LINES: [(&str, u64, Cause); 53] = [
     ("call 1 0 5 add x 3\n", 2, Cause::Range),
     ("call 0 1 5 sub x 3\n", 2, Cause::Range),
     ("call 4294967296 0 5 add x 3\n", 2, Cause::Range),
+    ("gossip 1 1\n", 2, Cause::Range),
+    ("show 18446744073709551615\n", 2, Cause::Range),
+    ("call 18446744073709551615 0 5 add x 3\n", 2, Cause::Range),
     ("call 0 0 5 sub x 1\n", 2, Cause::Op),
     ("call 0 0 5 \n", 2, Cause::Op),
+    ("call 0 0 5 add x\n", 2, Cause::Op),
+    ("call 0 0 5 add x 3 \n", 2, Cause::Op),
+    ("call 0 0 5 add x 03\n", 2, Cause::Op),
+    ("call 0 0 5 add x 18446744073709551616\n", 2, Cause::Op),
+    ("call 0 0 5 add X 3\n", 2, Cause::Op),
+    ("call 0 0 5 add abcdefghijklmnopq 3\n", 2, Cause::Op),
+    ("call 0 0 5 read abcdefghijklmnopq\n", 2, Cause::Op),
+    ("call 0 0 5 claim a ann\n", 2, Cause::Op),
     (
         "show 0\ndeliver 0\nshow 0\ncall 0 0 5  add x 1\nshow 1\n",
         5,
@@ -109,7 +157,7 @@ const BAD_LINES: [(&str, u64, Cause); 53] = [
 ];
 
 // (a header's line, its count of clients, the events' lines)
-const GOOD: [(&str, u32, &str); 6] = [
+const GOOD: [(&str, u32, &str); 7] = [
     ("lazyrep 1 tally 1 1 0\n", 1, ""),
     (
         "lazyrep 1 tally 9 64 10\n",
@@ -135,6 +183,11 @@ const GOOD: [(&str, u32, &str); 6] = [
         "lazyrep 1 tally 1 2 10\n",
         2,
         "call 0 0 5 add x 1\ndeliver 1\ncall 1 0 0 read x\ndeliver 1\nshow 0\n",
+    ),
+    (
+        "lazyrep 1 tally 2 1 10\n",
+        1,
+        "gossip 1 0\ncall 0 1 5 add abcdefghijklmnop 18446744073709551615\n",
     ),
 ];
 

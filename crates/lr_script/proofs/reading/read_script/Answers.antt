@@ -1,5 +1,11 @@
+use Rattle.std.proofs.Common.{Err, rules}
+use Rattle.std.specs.Prelude.{IfOk, IfErr}
+use Rattle.lr_script.specs.Faults.{IsScriptFault}
+use Rattle.lr_script.specs.Script.{IsScript}
+use Rattle.lr_script.specs.declared.heading.Header.{Header}
+use Rattle.lr_script.proofs.OneMeaning.{script_exactly, fault_exactly}
 use Rattle.lr_script.proofs.Refusing.{head_refused, lines_refused}
-use Rattle.lr_script.proofs.ScriptRefusals.{script_read}
+use Rattle.lr_script.proofs.ScriptRefusals.{head_fault, script_read}
 use Rattle.lr_script.proofs.reading.read_script.Goals as goal
 
 pub returns-in-Ok-clause-same : goal.returns-in-Ok-clause-same
@@ -10,3 +16,31 @@ returns-in-Ok-clause-refused g c = lines_refused g.S.Service.meaning g.met.S.Ser
 
 pub returns-in-Err-clause-refused : goal.returns-in-Err-clause-refused
 returns-in-Err-clause-refused g c = head_refused g.S.Service.meaning g.met.S.Service.lawful.printable_text c.args.bytes.now c.in-Err.fault c.in-Err.ensures.err
+
+pub returns-in-Ok-clause-whole : goal.returns-in-Ok-clause-whole
+returns-in-Ok-clause-whole g c =
+    let m = g.S.Service.meaning in
+    let bytes = c.args.bytes.now in
+    let result = c.read_events.result in
+    let ok : IfOk result (λ events. (header : Header) × IsScript m header events bytes) = search rules in
+    let err : IfErr result (IsScriptFault m bytes) = search rules in
+    script_exactly m g.met.S.Service.lawful.printable_text bytes g.met.S.Service.lawful.one_text result ok err
+
+pub returns-in-Ok-clause-exact : goal.returns-in-Ok-clause-exact
+returns-in-Ok-clause-exact g c =
+    let m = g.S.Service.meaning in
+    let bytes = c.args.bytes.now in
+    let result = c.read_events.result in
+    let ok : IfOk result (λ events. (header : Header) × IsScript m header events bytes) = search rules in
+    let err : IfErr result (IsScriptFault m bytes) = search rules in
+    fault_exactly m g.met.S.Service.lawful.printable_text bytes result ok err
+
+pub returns-in-Err-clause-whole : goal.returns-in-Err-clause-whole
+returns-in-Err-clause-whole g c =
+    let m = g.S.Service.meaning in
+    script_exactly m g.met.S.Service.lawful.printable_text c.args.bytes.now g.met.S.Service.lawful.one_text (Err c.in-Err.fault) tt (head_fault m c.args.bytes.now c.in-Err.fault c.in-Err.ensures.err)
+
+pub returns-in-Err-clause-exact : goal.returns-in-Err-clause-exact
+returns-in-Err-clause-exact g c =
+    let m = g.S.Service.meaning in
+    fault_exactly m g.met.S.Service.lawful.printable_text c.args.bytes.now (Err c.in-Err.fault) tt (head_fault m c.args.bytes.now c.in-Err.fault c.in-Err.ensures.err)
