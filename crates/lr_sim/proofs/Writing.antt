@@ -7,6 +7,7 @@ use Rattle.std.proofs.KnownBytes.{Appends-nil, Appends-trans}
 use Rattle.lr_base.specs.Meaning.{Meaning}
 use Rattle.lr_base.specs.declared.events.Event.{Event}
 use Rattle.lr_base.specs.declared.events.Step.{Step}
+use Rattle.lr_base.specs.declared.names.Config.{Config}
 use Rattle.lr_graph.specs.Legal.{IsLegal}
 use Rattle.lr_report.specs.Printed.{printed, step_text, steps_text}
 use Rattle.lr_report.specs.PrintedLaws.{steps_text-more}
@@ -47,6 +48,11 @@ module _ {Value Op : Type 0} (m : Meaning Value Op) (header : Header) where
             ∙ append_assoc w.written rest last
             ∙ ap (λ (xs : List ℕ). w.written ++ xs) (sym is);
       }
+
+  -- the same after a step of a world that is set up so
+  pub written-step : (config : Config) (steps after : List (Step Op)) (step : Step Op) (before now : Option (List ℕ)) (rest more : List ℕ) → config ≡ header.config → after ≡ steps ++ step ∷ [] → more ≡ rest ++ step_text m config (1 + length steps) step → IsWritten m header steps before now rest → IsWritten m header after before now more
+  written-step config steps after step before now rest more setup is text w =
+      subst (λ (all : List (Step Op)). IsWritten m header all before now more) (sym is) (written-more steps step before now rest more (text ∙ ap (λ (c : Config). rest ++ step_text m c (1 + length steps) step) setup) w)
 
   -- some of what is to be written is written
   pub written-moved : (steps : List (Step Op)) (before now next : Option (List ℕ)) (rest left : List ℕ) → HasMoved now next rest left → IsWritten m header steps before now rest → IsWritten m header steps before next left

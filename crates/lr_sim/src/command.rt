@@ -105,7 +105,7 @@ fn simulate_script<S: Service, W: Sink>(
             Err(RunFault::Write) => SimEnd::WriteFault,
             Err(RunFault::NoMemory) => SimEnd::NoMemory,
         },
-        Err(fault) => refused(fault),
+        Err(bad) => refused(bad),
     }
 }
 

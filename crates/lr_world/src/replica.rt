@@ -310,7 +310,11 @@ impl<S: Service> Replica<S> {
     }
 
     // What is ready is applied, and then held queries are answered, behind what the step did.
-    fn answer_ready(&mut self, acts: &mut Acts<S::Op>, point: &mut Savepoint<S>) -> Result<(), NoMemory>
+    fn answer_ready(
+        &mut self,
+        acts: &mut Acts<S::Op>,
+        point: &mut Savepoint<S>,
+    ) -> Result<(), NoMemory>
         requires { AllFitting S.Op.kind_of self.old.config acts.old.items }
         ensures fitting { OnOk result (AllFitting S.Op.kind_of self.old.config acts.new.items) }
         ensures setting { self.new.config ≡ self.old.config }

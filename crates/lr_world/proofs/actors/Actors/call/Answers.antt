@@ -45,7 +45,7 @@ invariant_of-self-2-clause-all_posted g c =
     let known : c.copy-front.result.client < it.config.clients = rw own.number c.requires.client in
     let fitting : AllFitting g.S.Op.Operation.kind_of it.config c.in_ok-acts.acts.items =
     subst (AllFitting g.S.Op.Operation.kind_of it.config) (sym c.in_ok-acts.ensures.acts)
-        (fitting-call g.S.Op.Operation.kind_of it.config c.copy-front.result c.args.replica c.args.reading c.args.op.now (g.S.Service.meaning.kind c.args.op.now) c.copy-front.result.open_call _ (sym (g.met.S.Service.lawful.kinds c.args.op.now)) own.parts known c.requires.replica) in
+    (fitting-call g.S.Op.Operation.kind_of it.config c.copy-front.result c.args.replica c.args.reading c.args.op.now (g.S.Service.meaning.kind c.args.op.now) c.copy-front.result.open_call _ (sym (g.met.S.Service.lawful.kinds c.args.op.now)) own.parts known c.requires.replica) in
     subst (AllPosted g.S.Op.Operation.kind_of it.config) (sym c.in_ok-lines.ensures.posted)
     (posted-more g.S.Op.Operation.kind_of it.config it.history.posted (Client c.args.client) c.in_ok-acts.acts.items (lt-ltb c.args.client it.config.clients c.requires.client) fitting it.all_posted)
 

@@ -50,7 +50,7 @@ invariant_of-self-2-clause-all_posted g c =
     let it = c.args.self.now in
     let fitting : AllFitting g.S.Op.Operation.kind_of it.config c.in_ok-acts.acts.items =
     subst (AllFitting g.S.Op.Operation.kind_of it.config) (sym c.in_ok-acts.ensures.acts)
-        (fitting-said g.S.Op.Operation.kind_of it.config (front_lines c.message.result.now.message c.copy-front.result)) in
+    (fitting-said g.S.Op.Operation.kind_of it.config (front_lines c.message.result.now.message c.copy-front.result)) in
     subst (AllPosted g.S.Op.Operation.kind_of it.config) (sym c.in_ok-lines.ensures.posted)
     (posted-more g.S.Op.Operation.kind_of it.config it.history.posted (Client c.args.client) c.in_ok-acts.acts.items (lt-ltb c.args.client it.config.clients c.requires.client) fitting it.all_posted)
 
@@ -64,4 +64,4 @@ returns-clause-made g c posted found =
     let one : c.message.result.now ≡ posted = cc in
     subst (λ (p : Posted _). HasMade (front_given (run_of it) c.args.client p.message (slice_get it.fronts.items c.args.client)) c.args.noted (steps_of it) c.record.new.self.steps (record { replicas = it.replicas.items; fronts = set it.fronts.items c.args.client c.give_front.new.front; posted = c.record.new.self.posted }) c.in_ok-lines.lines) one
     (given-made (run_of it) c.args.client c.message.result.now.message c.copy-front.result c.give_front.new.front c.in_ok-acts.acts.items c.args.noted (steps_of it) c.record.new.self.steps (record { replicas = it.replicas.items; fronts = set it.fronts.items c.args.client c.give_front.new.front; posted = c.record.new.self.posted }) c.in_ok-lines.lines there
-        c.give_front.ensures.next c.in_ok-acts.ensures.acts (λ k. record { replicas = it.replicas.items; fronts = set it.fronts.items c.args.client c.give_front.new.front; posted = c.in_ok-lines.ensures.posted k }) c.in_ok-lines.ensures.steps c.in_ok-lines.ensures.lines)
+    c.give_front.ensures.next c.in_ok-acts.ensures.acts (λ k. record { replicas = it.replicas.items; fronts = set it.fronts.items c.args.client c.give_front.new.front; posted = c.in_ok-lines.ensures.posted k }) c.in_ok-lines.ensures.steps c.in_ok-lines.ensures.lines)

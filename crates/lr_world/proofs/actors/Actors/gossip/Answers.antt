@@ -44,5 +44,5 @@ returns-clause-made g c =
     let end = gossiped g.S.Service.meaning replica.config.replicas c.args.to replica.causal in
     map-ok c.send_gossip.result _ _
     (λ lines done. subst (λ (o : Option (ReplicaState _ _)). HasMade (replica_gossips g.S.Service.meaning (run_of it) c.args.from c.args.to o) c.args.noted (steps_of it) c.send_gossip.new.history.steps (record { replicas = set it.replicas.items c.args.from c.send_gossip.new.replica; fronts = it.fronts.items; posted = c.send_gossip.new.history.posted }) lines) (sym there)
-        (ended-made (run_of it) c.args.from replica c.send_gossip.new.replica end c.args.noted it.history c.send_gossip.new.history (record { replicas = set it.replicas.items c.args.from c.send_gossip.new.replica; fronts = it.fronts.items; posted = c.send_gossip.new.history.posted }) lines old.number refl done refl))
+    (ended-made (run_of it) c.args.from replica c.send_gossip.new.replica end c.args.noted it.history c.send_gossip.new.history (record { replicas = set it.replicas.items c.args.from c.send_gossip.new.replica; fronts = it.fronts.items; posted = c.send_gossip.new.history.posted }) lines old.number refl done refl))
     c.send_gossip.ensures.done

@@ -61,5 +61,5 @@ returns-clause-made g c posted found =
     let end = taken g.S.Service.meaning replica.config replica.me replica.causal posted.from posted.message in
     map-ok c.take_message.result _ _
     (λ lines done. subst (λ (o : Option (ReplicaState _ _)). HasMade (replica_given g.S.Service.meaning (run_of it) c.args.me posted.from posted.message o) c.args.noted (steps_of it) c.take_message.new.history.steps (record { replicas = set it.replicas.items c.args.me c.take_message.new.replica; fronts = it.fronts.items; posted = c.take_message.new.history.posted }) lines) (sym there)
-        (ended-made (run_of it) c.args.me replica c.take_message.new.replica end c.args.noted it.history c.take_message.new.history (record { replicas = set it.replicas.items c.args.me c.take_message.new.replica; fronts = it.fronts.items; posted = c.take_message.new.history.posted }) lines old.number refl done refl))
+    (ended-made (run_of it) c.args.me replica c.take_message.new.replica end c.args.noted it.history c.take_message.new.history (record { replicas = set it.replicas.items c.args.me c.take_message.new.replica; fronts = it.fronts.items; posted = c.take_message.new.history.posted }) lines old.number refl done refl))
     (c.take_message.ensures.done posted found)

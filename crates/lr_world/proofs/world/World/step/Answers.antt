@@ -18,7 +18,7 @@ invariant_of-self-inside g c =
     let next = c.step.new.self in
     let range = subst (λ (config : Config). IsInRange config c.args.event.now) (sym (ap (λ h. h.config) c.self.view_is)) c.requires.fits in
     let made = made-after g.S.Service.meaning (setup_of it) c.step.result c.args.event.now (steps_of it) (steps_of next) (run_of it) (run_of next) c.a_made_history_goes_on.ensures.next
-        (event-of g.S.Service.meaning (setup_of it) c.args.event.now range c.requires.plain) c.step.ensures.made c.step.ensures.err_run c.step.ensures.err_steps c.self.inside.made in
+    (event-of g.S.Service.meaning (setup_of it) c.args.event.now range c.requires.plain) c.step.ensures.made c.step.ensures.err_run c.step.ensures.err_steps c.self.inside.made in
     (subst (λ (config : Config). ∥ IsMade g.S.Service.meaning config (steps_of next) (run_of next) ∥₁) (sym c.step.ensures.setup) made, tt)
 
 pub returns-clause-legal : goal.returns-clause-legal
@@ -27,5 +27,5 @@ returns-clause-legal g c =
     let next = c.step.new.self in
     let range = subst (λ (config : Config). IsInRange config c.args.event.now) (sym (ap (λ h. h.config) c.self.view_is)) c.requires.fits in
     rw c.step.ensures.setup (legal-of g.S.Service.meaning (setup_of it) c.what_is_made_is_legal.ensures (steps_of next) (run_of next)
-        (made-after g.S.Service.meaning (setup_of it) c.step.result c.args.event.now (steps_of it) (steps_of next) (run_of it) (run_of next) c.a_made_history_goes_on.ensures.next
-            (event-of g.S.Service.meaning (setup_of it) c.args.event.now range c.requires.plain) c.step.ensures.made c.step.ensures.err_run c.step.ensures.err_steps c.self.inside.made))
+    (made-after g.S.Service.meaning (setup_of it) c.step.result c.args.event.now (steps_of it) (steps_of next) (run_of it) (run_of next) c.a_made_history_goes_on.ensures.next
+    (event-of g.S.Service.meaning (setup_of it) c.args.event.now range c.requires.plain) c.step.ensures.made c.step.ensures.err_run c.step.ensures.err_steps c.self.inside.made))
