@@ -8,7 +8,7 @@ use Rattle.lr_outside.specs.Faults.{Rose}
 use Rattle.lr_sim.specs.Ends.{IsComplete, SimEnded, SimMeans, no_memory}
 use Rattle.lr_sim.specs.declared.command.SimEnd.{SimEnd}
 use Rattle.lr_sim.specs.declared.command.SimEnd.TheVariants.{Ok as Done, Script, ReadFault, WriteFault, NoMemory}
-use Rattle.lr_sim.specs.declared.script.Cause.{Cause}
+use Rattle.lr_script.specs.declared.refusals.Cause.{Cause}
 use Rattle.lazyrep.specs.Top.{SimStatus, Told}
 
 module _ {Out : Type 0} (held : Out → Option (List ℕ)) (left_before left_now : Option (List ℕ)) (read_before read_now write_before write_now : ℕ) (out_before out_now : Out) where

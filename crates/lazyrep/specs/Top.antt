@@ -8,8 +8,8 @@ use Rattle.lr_base.specs.Tally.{tally}
 use Rattle.lr_sim.specs.Ends.{IsComplete, SimEnded, SimMeans}
 use Rattle.lr_sim.specs.declared.command.SimEnd.{SimEnd}
 use Rattle.lr_sim.specs.declared.command.SimEnd.TheVariants.{Ok as Done, Script, ReadFault, WriteFault, NoMemory}
-use Rattle.lr_sim.specs.declared.script.Cause.{Cause}
-use Rattle.lr_sim.specs.declared.script.Cause.TheVariants.{TooLong, Unended, Byte, Header, Event, Fields, Number, Range, Op}
+use Rattle.lr_script.specs.declared.refusals.Cause.{Cause}
+use Rattle.lr_script.specs.declared.refusals.Cause.TheVariants.{TooLong, Unended, Byte, Header, Event, Fields, Number, Range, Op}
 
 -- there are two words, and the second is `sim`
 abbrev pub IsSim : List (String Global) → Type 0

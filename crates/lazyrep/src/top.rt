@@ -8,7 +8,8 @@ ghost use Rattle.lazyrep.specs.Top.{cause_text, IsCode, IsSim, SimStatus, text_o
 mod tests;
 
 use lr_outside::{Sink, Source, write_whole};
-use lr_sim::{Cause, SimEnd, sim_command};
+use lr_script::Cause;
+use lr_sim::{SimEnd, sim_command};
 use std::alloc::{AllocError, Global};
 
 const USAGE: &[u8] = b"usage: lazyrep sim | run | gen NUMBER\n";
