@@ -1,5 +1,5 @@
 -- How a simulation ends.
-use Rattle.std.specs.Prelude.{◌≡◌, ◌<◌, ◌≤◌, ◌⊎◌, ◌↔◌, ℕ, List, [], Option, length}
+use Rattle.std.specs.Prelude.{◌≡◌, ◌<◌, ◌≤◌, ◌⊎◌, ℕ, List, [], Option, length}
 use Rattle.std.specs.Io.KnownBytes.{Appends, Consumes, IsAtEnd}
 use Rattle.lr_base.specs.Meaning.{Meaning}
 use Rattle.lr_base.specs.declared.events.Event.{Event}
@@ -10,7 +10,6 @@ use Rattle.lr_script.specs.Script.{IsScript}
 use Rattle.lr_sim.specs.declared.command.SimEnd.{SimEnd}
 use Rattle.lr_sim.specs.declared.command.SimEnd.TheVariants.{Ok as Done, Script, ReadFault, WriteFault, NoMemory}
 use Rattle.lr_script.specs.declared.refusals.Cause.{Cause}
-use Rattle.lr_script.specs.declared.refusals.Cause.TheVariants.{TooLong}
 use Rattle.lr_script.specs.declared.heading.Header.{Header}
 use Rattle.lr_script.specs.declared.refusals.ScriptFault.{ScriptFault}
 use Rattle.lr_script.specs.declared.refusals.ScriptFault.TheVariants.{Line, NoMemory as NoMemoryLeft}

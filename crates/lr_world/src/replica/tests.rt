@@ -54,11 +54,12 @@ fn call(
     let kind = Tally::kind(&op);
     let cid = Cid { client: 0, seq };
     let call = Call { cid, prev, op };
-    let message = match kind {
-        Kind::Query => Message::Query { call },
-        Kind::Causal | Kind::Forced | Kind::Immediate => Message::Update { call, time: 0 },
+    let (acts, _point) = match kind {
+        Kind::Query => replica.take(Actor::Client(0), &Message::Query { call })?,
+        Kind::Causal | Kind::Forced | Kind::Immediate => {
+            replica.take(Actor::Client(0), &Message::Update { call, time: 0 })?
+        }
     };
-    let (acts, _point) = replica.take(Actor::Client(0), &message)?;
     replica.finish();
     Ok(acts)
 }

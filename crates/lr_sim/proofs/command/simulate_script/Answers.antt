@@ -1,5 +1,4 @@
-use Rattle.std.proofs.Common.{inr}
-use Rattle.lr_sim.proofs.Ending.{refusal-means, run-part, run-whole}
+use Rattle.lr_sim.proofs.Ending.{run-part, run-whole}
 use Rattle.lr_sim.proofs.command.simulate_script.Goals as goal
 
 pub returns-in-Ok-write_history-clause-meant : goal.returns-in-Ok-write_history-clause-meant
