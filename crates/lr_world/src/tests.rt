@@ -40,14 +40,12 @@ fn a_query_waits_for_gossip(rt: HostRuntime) -> Result<(), Fail> {
         (Event::Deliver { message: 6 }, 5, 1),
         (Event::Show { replica: 1 }, 5, 1),
     ];
-    let mut steps = 0;
-    for (event, sent, lines) in events {
-        assert!(rt; world.fits(&event), "event {steps}");
+    for (at, (event, sent, lines)) in events.into_iter().enumerate() {
+        assert!(rt; world.fits(&event), "event {at}");
         let outcomes = world.step(&event)?;
-        steps += 1;
-        assert_eq!(rt; world.sent(), sent, "event {steps}");
-        assert_eq!(rt; outcomes.len(), lines, "event {steps}");
-        assert_eq!(rt; world.history().len(), steps);
+        assert_eq!(rt; world.sent(), sent, "event {at}");
+        assert_eq!(rt; outcomes.len(), lines, "event {at}");
+        assert_eq!(rt; world.history().len(), at + 1);
     }
     assert_eq!(rt; world.config().clients, 1);
     Ok(())

@@ -1,11 +1,12 @@
 //! What a replica does with messages, worked out by hand.
-ghost use Rattle.std.specs.Prelude.{◌≡◌};
+ghost use Rattle.std.specs.Prelude.{◌≡◌, true};
+ghost use Rattle.lr_world.specs.Shapes.{IsShaped, is_actor};
 
 use crate::acts::Acts;
 use crate::replica::Replica;
-use lr_base::lr_service::{Kind, Service};
+use lr_base::lr_service::{Kind, Operation, Service};
 use lr_base::svc_tally::{Tally, TallyOp};
-use lr_base::{Act, Actor, Call, Cid, Config, Message, Outcome, Stamp};
+use lr_base::{Act, Actor, Call, Cid, Config, Message, NoMemory, Outcome, Stamp};
 use std::alloc::Global;
 use std::process::Abort;
 use std::test::Fail;
@@ -36,6 +37,20 @@ fn stamp_text(alloc: Global, stamp: &Stamp) -> Result<String, Fail> {
     Ok(text)
 }
 
+// The client's message is taken, to the end of the step.
+fn whole_step(
+    replica: &mut Replica<Tally>,
+    message: &Message<TallyOp>,
+) -> Result<Acts<TallyOp>, NoMemory>
+    requires shaped { IsShaped ⟦<TallyOp as Operation>⟧.kind_of replica.old.config message.now }
+    requires client { is_actor replica.old.config (Actor.Client 0) ≡ true }
+    ensures { replica.new.config ≡ replica.old.config }
+{
+    let (acts, _point) = replica.take(Actor::Client(0), message)?;
+    replica.finish();
+    Ok(acts)
+}
+
 // One of the three replicas takes the call of this number.
 fn call(
     rt: &impl Abort,
@@ -54,14 +69,12 @@ fn call(
     let kind = Tally::kind(&op);
     let cid = Cid { client: 0, seq };
     let call = Call { cid, prev, op };
-    let (acts, _point) = match kind {
-        Kind::Query => replica.take(Actor::Client(0), &Message::Query { call })?,
+    match kind {
+        Kind::Query => Ok(whole_step(replica, &Message::Query { call })?),
         Kind::Causal | Kind::Forced | Kind::Immediate => {
-            replica.take(Actor::Client(0), &Message::Update { call, time: 0 })?
+            Ok(whole_step(replica, &Message::Update { call, time: 0 })?)
         }
-    };
-    replica.finish();
-    Ok(acts)
+    }
 }
 
 // One line for each act.
