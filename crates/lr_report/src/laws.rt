@@ -1,4 +1,4 @@
-//! Laws of what is printed: each function does nothing, and its contract is the law.
+//! Laws of what is printed: a function's contract is the law, and its body calls the laws that it stands on.
 ghost use Rattle.std.specs.Prelude.{◌≡◌, List};
 ghost use Rattle.std.specs.List.{All};
 ghost use Rattle.lr_base.specs.declared.events.Step.{Step};

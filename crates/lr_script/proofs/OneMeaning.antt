@@ -89,6 +89,11 @@ module _ {Value Op : Type 0} (m : Meaning Value Op) (ops : ArePrintable m) where
   fault_one bytes line at a b (inr bad) (inl worse) = absurd (head_refuted bytes bad.header (at_head m bytes line a bad) bad.short at b worse)
   fault_one bytes line at a b (inr bad) (inr worse) = at_one bytes line at a b bad worse
 
+-- a header's fault is the one that the bytes have
+pub head_fault_is : (bytes : List ℕ) (fault : ScriptFault) → IsHeadFault bytes fault → fault ≢ NoMemory → (line : ℕ) (cause : Cause) → IsBadHead bytes line cause → fault ≡ Line line cause
+head_fault_is bytes (Line at why) h memory line cause bad = let one = head_fault_one bytes at line why cause h bad in λ i. Line (one.0 i) (one.1 i)
+head_fault_is bytes NoMemory h memory line cause bad = absurd (memory refl)
+
 -- what was read of a header, without memory
 pub record HasReadHeader (bytes : List ℕ) (result : Result Header ScriptFault) : Type 0 where
   pub ok : IfOk result (λ header. HasHeader header bytes)
@@ -110,7 +115,7 @@ pub head_fault_exactly : (bytes : List ℕ) (result : Result Header ScriptFault)
 head_fault_exactly bytes (Ok header) has line cause = ((λ e. absurd (cc)), (λ bad. absurd (head_refuted bytes header has.ok has.short line cause bad)))
 head_fault_exactly bytes (Err (Line at why)) has line cause = (
   (λ e. let here : at ≡ line = cc in let same : why ≡ cause = cc in subst (λ (it : ℕ). IsBadHead bytes it cause) here (subst (λ (it : Cause). IsBadHead bytes at it) same has.err)),
-  (λ bad. let one = head_fault_one bytes at line why cause has.err bad in λ i. Err (Line (one.0 i) (one.1 i))),
+  (λ bad. ap Err (head_fault_is bytes (Line at why) has.err (λ e. has.memory (ap Err e)) line cause bad)),
 )
 head_fault_exactly bytes (Err NoMemory) has line cause = absurd (has.memory refl)
 

@@ -47,7 +47,9 @@ pub fn read_script<S: Service>(
     ensures err { IfErr result (IsScriptFault S.meaning bytes.now) }
     ensures refused { IfErr result (IsRefused S.meaning bytes.now) }
 
-    // Where there is memory, the answer is the one that the bytes allow.
+    // Where there is memory, the answer is the one that the bytes allow. A bad header is told without any.
+    ensures head { (line : ℕ) (cause : Cause)
+        → IsBadHead bytes.now line cause → result ≡ Err (ScriptFault.Line line cause) }
     ensures whole { (header : Header) (events : List (Event S.Op))
         → IsScript S.meaning header events bytes.now
         → (result ≡ Ok events) ⊎ (result ≡ Err ScriptFault.NoMemory) }

@@ -1,11 +1,11 @@
-use Rattle.std.proofs.Common.{Err, rules}
+use Rattle.std.proofs.Common.{Err, ap, rules}
 use Rattle.std.specs.Prelude.{IfOk, IfErr}
 use Rattle.lr_script.specs.Faults.{IsScriptFault}
 use Rattle.lr_script.specs.Script.{IsScript}
 use Rattle.lr_script.specs.declared.heading.Header.{Header}
-use Rattle.lr_script.proofs.OneMeaning.{script_exactly, fault_exactly}
+use Rattle.lr_script.proofs.OneMeaning.{head_fault_is, script_exactly, fault_exactly}
 use Rattle.lr_script.proofs.Refusing.{head_refused, lines_refused}
-use Rattle.lr_script.proofs.ScriptRefusals.{head_fault, script_read}
+use Rattle.lr_script.proofs.ScriptRefusals.{head_fault, head_refuted, script_read}
 use Rattle.lr_script.proofs.reading.read_script.Goals as goal
 
 pub returns-in-Ok-clause-same : goal.returns-in-Ok-clause-same
@@ -44,3 +44,10 @@ pub returns-in-Err-clause-exact : goal.returns-in-Err-clause-exact
 returns-in-Err-clause-exact g c =
     let m = g.S.Service.meaning in
     fault_exactly m g.met.S.Service.lawful.printable_text c.args.bytes.now (Err c.in-Err.fault) tt (head_fault m c.args.bytes.now c.in-Err.fault c.in-Err.ensures.err)
+
+pub returns-in-Ok-clause-head : goal.returns-in-Ok-clause-head
+returns-in-Ok-clause-head g c = λ line cause bad.
+    absurd (head_refuted c.args.bytes.now c.in-Ok.header (record { valid = c.in-Ok.ensures.valid; rest = c.in-Ok.lines.now; text = c.in-Ok.ensures.text }) c.in-Ok.ensures.short line cause bad)
+
+pub returns-in-Err-clause-head : goal.returns-in-Err-clause-head
+returns-in-Err-clause-head g c = λ line cause bad. ap Err (head_fault_is c.args.bytes.now c.in-Err.fault c.in-Err.ensures.err (λ e. c.in-Err.ensures.memory (ap Err e)) line cause bad)
