@@ -116,12 +116,3 @@ module _ {Value Op : Type 0} where
       both : (applied : Option (Applied Value)) → ForSome applied (λ a. length a.val_ts ≡ length state.rep_ts) → ForSome (Some (value_before applied (value_of state))) (λ a. length a.val_ts ≡ length state.rep_ts)
       both (Some a) own = own
       both None own = λ a e. let same : value_of state ≡ a = cc in rw (← same) val_parts
-
--- a shape by another name of the savepoint
-pub HasShapeOf-along : {Value Op : Type 0} (p same : Saved Value) (state : CausalState Value Op) → same ≡ p → HasShapeOf p state → HasShapeOf same state
-HasShapeOf-along p same state is shape = rw is shape
-
--- the value that comes back has as many parts as both
-pub value_before-parts : {Value : Type 0} (parts : ℕ) (applied : Option (Applied Value)) (now back : Applied Value) → back ≡ value_before applied now → ForSome applied (λ a. length a.val_ts ≡ parts) → length now.val_ts ≡ parts → length back.val_ts ≡ parts
-value_before-parts parts (Some a) now back is own other = rw is (own a refl)
-value_before-parts parts None now back is own other = rw is other

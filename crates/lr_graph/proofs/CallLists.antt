@@ -62,9 +62,6 @@ module _ (cid : Cid) where
           let first : cid_before cid x ≡ true = cid-total x cid (λ same. apart.0 (sym same)) e in
           ((first, each-map _ _ cids (λ y k. cid-trans cid x y first k) h.0), h)
 
-keys_of : List (Cid × Known) → List Cid
-keys_of calls = map (λ e. e.0) calls
-
 each-keys : (P : Cid → Type 0) (calls : List (Cid × Known)) → Each (λ e. P e.0) calls → Each P (ascending (map (λ e. e.0) calls))
 each-keys P [] h = tt
 each-keys P (e ∷ calls) h = each-put_cid e.0 P (ascending (map (λ e. e.0) calls)) h.0 (each-keys P calls h.1)

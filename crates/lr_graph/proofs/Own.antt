@@ -59,10 +59,6 @@ module _ {Value Op : Type 0} (m : Meaning Value Op) (config : Config) (issued : 
   abbrev next_is : next_number w ≡ length v.posted + 1
   next_is = let c = shared.count in omega arith
 
-  -- nothing is said or done
-  pub own-nothing : IsOwnPart m config issued w v i x [] (record { state = state; acts = [] })
-  own-nothing = record { lines = refl; shared = same_posts; mid = unchanged-mid m config w i state shared.sound ok; others = others }
-
   -- a refusal
   pub own-refused : (why : Refusal) → IsOwnPart m config issued w v i x (Refuse why ∷ []) (refusing state why)
   own-refused why = record { lines = refl; shared = same_posts; mid = unchanged-mid m config w i state shared.sound ok; others = others }

@@ -24,11 +24,6 @@ module _ {X : Type 0} where
   pub each-pushed : (xs new : List X) (y : X) (P : ℕ → X → Type 0) → new ≡ xs ++ y ∷ [] → ((k : ℕ) → ForSome (slice_get xs k) (P k)) → P (length xs) y → (k : ℕ) → ForSome (slice_get new k) (P k)
   each-pushed xs new y P is all own = subst (λ (ys : List X). (k : ℕ) → ForSome (slice_get ys k) (P k)) (sym is) (each-push xs y P all own)
 
-  -- the same where it is only added on success
-  pub each-pushed-if : (added : Bool) (xs new : List X) (y : X) (P : ℕ → X → Type 0) → new ≡ cond added (xs ++ y ∷ []) xs → ((k : ℕ) → ForSome (slice_get xs k) (P k)) → P (length xs) y → (k : ℕ) → ForSome (slice_get new k) (P k)
-  each-pushed-if true xs new y P is all own = each-pushed xs new y P is all own
-  each-pushed-if false xs new y P is all own = subst (λ (ys : List X). (k : ℕ) → ForSome (slice_get ys k) (P k)) (sym is) all
-
   -- an element that was read is one of them
   pub each-read : (xs : List X) (i : ℕ) (x : X) (P : ℕ → X → Type 0) → ((k : ℕ) → ForSome (slice_get xs k) (P k)) → (count : ℕ) → count ≡ length xs → i < count → x ≡ get_or xs i x → P i x
   each-read xs i x P all count long within is = all i x (slice_get_read xs count i x long within is)
