@@ -1,4 +1,5 @@
 pub mod Ascending
+pub mod Bytes
 pub mod Config
 pub mod Fronts
 pub mod Kinds
@@ -10,7 +11,3 @@ pub mod Rules
 pub mod StampLaws
 pub mod Stamps
 pub mod Steps
-pub mod Tally
-pub mod TallyLaw
-pub mod Word
-pub mod WordTexts

@@ -2,6 +2,7 @@
 #![tactic(auto)]
 
 mod acts;
+mod bytes;
 mod events;
 mod executed;
 mod laws;
@@ -11,10 +12,12 @@ mod names;
 mod numbers;
 mod rows;
 mod stamp;
-pub mod svc_tally;
-mod word;
 
 pub use acts::{Act, Posted};
+pub use bytes::{
+    BadWhat, FieldFault, GetFault, byte_field, count_field, decoded, number_field, put_count_field,
+    put_number_field,
+};
 pub use events::{Event, Outcome, Refusal, Sent, StateLine, Step};
 pub use executed::Executed;
 pub use laws::{join_is_least, order_of_stamps, set_part_changes_one};
@@ -23,4 +26,3 @@ pub use names::{Actor, Cid, Config, Spot};
 pub use numbers::read_number;
 pub use rows::{NoMemory, Rows, Text};
 pub use stamp::Stamp;
-pub use word::Word;

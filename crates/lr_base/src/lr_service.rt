@@ -1,9 +1,11 @@
 //! What a service is: a value, operations on it, and the law that lets replicas apply them in different orders.
-ghost use Rattle.std.specs.Prelude.{◌≡◌, ◌≢◌, ◌++◌, true, IfOk, OnOk, OnErr, IsErrOf};
+ghost use Rattle.std.specs.Prelude.{ℕ, ◌≡◌, ◌≢◌, ◌++◌, true, IfOk, OnOk, OnErr, IsErrOf};
+ghost use Rattle.lr_base.specs.Bytes.{Decodes};
 ghost use Rattle.lr_base.specs.Kinds.{IsQuery, IsUpdate};
 ghost use Rattle.lr_base.specs.Meaning.{Meaning, Lawful};
 
-use crate::rows::{NoMemory, Text};
+use crate::bytes::GetFault;
+use crate::rows::{NoMemory, Rows, Text};
 use std::alloc::Global;
 
 /// How an operation is ordered against the others.
@@ -43,8 +45,13 @@ pub trait Operation: Sized + Drop {
 pub trait Service: Sized + Drop {
     type Op: Operation;
 
-    /// What the operations mean.
+    /// What the operations mean, and how values are spelled.
     ghost meaning: { Meaning Self Self.Op };
+
+    ghost NUMBER: { ℕ };
+
+    /// The service's number in stable bytes.
+    const NUMBER: u8;
 
     /// The value before any update.
     fn start(alloc: Global) -> Result<Self, NoMemory>
@@ -79,6 +86,15 @@ pub trait Service: Sized + Drop {
     /// A value equal to this one.
     fn copy(&self) -> Result<Self, NoMemory>
         ensures { IfOk result (λ copied. copied ≡ self.now) };
+
+    /// Adds the value's one spelling behind `out`. Where there is no memory, part of it may stand there.
+    fn put(&self, out: &mut Rows<u8>) -> Result<(), NoMemory>
+        ensures ok { OnOk result (out.new ≡ out.old ++ meaning.spelling self.now) }
+        ensures real { OnOk result (meaning.is_value self.now ≡ true) };
+
+    /// The value that is spelled so. Other bytes are refused at the first wrong field.
+    fn get(alloc: Global, bytes: &[u8]) -> Result<Self, GetFault>
+        ensures { Decodes (meaning.decoded bytes.now) result };
 
     ghost lawful: { Lawful meaning Self.Op.kind_of };
 }
