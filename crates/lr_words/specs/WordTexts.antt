@@ -2,7 +2,7 @@
 use Rattle.std.proofs.Common.{◌≡◌, ◌≢◌, ◌≤◌, ℕ, zero, suc, true, false, ◌&&◌, nat_le, List, [], ◌∷◌, ◌++◌, length, get_or, refl, sym, ◌∙◌, ap, leb-true}
 use Rattle.std.specs.List.{list_all}
 use Rattle.std.proofs.lemmas.Bool.{and_parts}
-use Rattle.lr_base.specs.Word.{is_word, is_word_byte}
+use Rattle.lr_words.specs.Word.{is_word, is_word_byte}
 
 -- no byte is a space
 abbrev pub HasNoSpace : List ℕ → Type 0

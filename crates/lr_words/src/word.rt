@@ -4,8 +4,8 @@ ghost use Rattle.std.specs.List.{list_all};
 ghost use Rattle.std.specs.Cmp.{partial_equiv_from_equiv};
 ghost use Rattle.std.specs.Cmp.Lexicographic.{pointwise, slice_cmp, nat_list_eq_equiv, nat_list_cmp_total, texts_po, texts_ties};
 ghost use Rattle.std.specs.Ordering.{nat_cmp};
-ghost use Rattle.lr_base.specs.Word.{is_word, is_word_byte};
-ghost use Rattle.lr_base.specs.WordTexts.{HasNoSpace};
+ghost use Rattle.lr_words.specs.Word.{is_word, is_word_byte};
+ghost use Rattle.lr_words.specs.WordTexts.{HasNoSpace};
 
 use arrayvec::ArrayVec;
 use std::alloc::AllocError;
@@ -23,7 +23,7 @@ pub struct Word {
 
 impl Model for Word {
     ghost use Rattle.std.specs.Prelude.{◌≡◌, List, ℕ, true};
-    ghost use Rattle.lr_base.specs.Word.{is_word};
+    ghost use Rattle.lr_words.specs.Word.{is_word};
 
     ghost Value = { List ℕ };
 

@@ -1,5 +1,5 @@
 use Rattle.std.proofs.Common.{◌≢◌, ◌<◌, ℕ, get_or}
-use Rattle.lr_base.proofs.word.split_at_space.Given as goal
+use Rattle.lr_words.proofs.word.split_at_space.Given as goal
 
 -- no byte so far is a space
 abbrev pub invariant-loop-i : goal.invariant-loop-i

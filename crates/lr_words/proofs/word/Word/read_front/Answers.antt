@@ -1,7 +1,7 @@
 use Rattle.std.proofs.Common.{◌≡◌, true, false, get_or, length, refl, sym, ap, ◌∙◌}
-use Rattle.lr_base.specs.Word.{is_word}
-use Rattle.lr_base.specs.WordTexts.{space-behind, same-front, word-no_space}
-use Rattle.lr_base.proofs.word.Word.read_front.Goals as goal
+use Rattle.lr_words.specs.Word.{is_word}
+use Rattle.lr_words.specs.WordTexts.{space-behind, same-front, word-no_space}
+use Rattle.lr_words.proofs.word.Word.read_front.Goals as goal
 
 pub returns-in_err-front-clause-none : goal.returns-in_err-front-clause-none
 returns-in_err-front-clause-none c none word rest is same =

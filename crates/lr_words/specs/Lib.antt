@@ -1,0 +1,4 @@
+pub mod Formats
+pub mod Tables
+pub mod Word
+pub mod WordTexts
