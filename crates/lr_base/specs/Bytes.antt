@@ -1,5 +1,5 @@
 -- How values stand in bytes: field after field, each read from the bytes that are left.
-use Rattle.std.specs.Prelude.{◌≡◌, ℕ, zero, suc, ◌-◌, Bool, true, ◌==◌, nat_lt, if◌then◌else◌, List, [], ◌∷◌, ◌++◌, length, drop, Option, Some, None, Result, Ok, Err, ⊤}
+use Rattle.std.specs.Prelude.{◌≡◌, ◌<◌, ◌^◌, ℕ, zero, suc, ◌-◌, Bool, true, ◌==◌, nat_lt, if◌then◌else◌, List, [], ◌∷◌, ◌++◌, length, drop, Option, Some, None, Result, Ok, Err, ⊤}
 use Rattle.std.specs.List.{list_all}
 use Rattle.std.specs.Borrow.{Bor}
 use Rattle.byteorder.specs.Endian.{big_number, big_bytes}
@@ -68,7 +68,7 @@ Decodes decoded (Ok value) = decoded ≡ Good value
 Decodes decoded (Err (refusal.Bad at what)) = decoded ≡ Bad at what
 Decodes decoded (Err refusal.NoMemory) = ⊤
 
--- what is written of a value is read as it, and what is read of bytes is written as they are
+-- what is written of a value, in fewer than 2^64 bytes, is read as it, and what is read of bytes is written as they are
 pub record IsExact {A : Type 0} (is_value : A → Bool) (written : A → List ℕ) (field : List ℕ → Reading A) : Type 0 where
-  pub forth : (value : A) (rest : List ℕ) → is_value value ≡ true → field (written value ++ rest) ≡ Found value rest
+  pub forth : (value : A) (rest : List ℕ) → is_value value ≡ true → length (written value) < 2 ^ 64 → field (written value ++ rest) ≡ Found value rest
   pub back : (bytes : List ℕ) (value : A) (rest : List ℕ) → are_bytes bytes ≡ true → field bytes ≡ Found value rest → (bytes ≡ written value ++ rest) × (is_value value ≡ true)

@@ -56,7 +56,7 @@ words_field bytes = and_then (count_field bytes) (λ count rest.
 -- words in order, with repeats
 abbrev pub words_format : Format (List (List ℕ))
 words_format = record {
-  is_value = λ words. nat_lt 0 (length words) && nat_lt (length words) (2 ^ 64) && list_all is_word words && are_in_order words;
+  is_value = λ words. nat_lt 0 (length words) && list_all is_word words && are_in_order words;
   written = λ words. count_bytes (length words) ++ flat_map word_bytes words;
   field = words_field;
 }

@@ -1,5 +1,5 @@
 -- Tables: values by name, and how they stand in bytes.
-use Rattle.std.specs.Prelude.{ℕ, ◌^◌, ◌==◌, Bool, true, false, ◌&&◌, nat_lt, nat_le, if◌then◌else◌, List, [], ◌∷◌, ◌++◌, length, take, drop, Option, Some, None, flat_map}
+use Rattle.std.specs.Prelude.{ℕ, Bool, true, ◌&&◌, nat_lt, nat_le, if◌then◌else◌, List, [], ◌∷◌, ◌++◌, length, take, drop, Option, Some, None, flat_map}
 use Rattle.std.specs.List.{list_all}
 use Rattle.std.specs.Ordering.{nat_cmp, is_lt}
 use Rattle.std.specs.Cmp.Lexicographic.{slice_cmp}
@@ -57,9 +57,9 @@ entry_bytes format entry = word_bytes entry.0 ++ format.written entry.1
 abbrev pub table_bytes : {V : Type 0} → Format V → Table V → List ℕ
 table_bytes format table = count_bytes (map.len table) ++ flat_map (entry_bytes format) (map.entries table)
 
--- a table that is written: of fewer than 2^64 names, which are words, with values that are written
+-- a table whose names are words, with values that are written
 abbrev pub is_table : {V : Type 0} → Format V → Table V → Bool
-is_table format table = nat_lt (map.len table) (2 ^ 64) && list_all (λ entry. is_word entry.0 && format.is_value entry.1) (map.entries table)
+is_table format table = list_all (λ entry. is_word entry.0 && format.is_value entry.1) (map.entries table)
 
 -- tables of values in this format
 abbrev pub table_of : {V : Type 0} → Format V → Format (Table V)
