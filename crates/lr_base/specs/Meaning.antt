@@ -21,7 +21,7 @@ pub record Meaning (Value Op : Type 0) : Type 0 where
 abbrev pub is_printable : List ℕ → Bool
 is_printable bytes = list_all (λ byte. nat_le 32 byte && nat_le byte 126) bytes
 
--- two updates commute unless one is immediate or both are forced; each operation has one text, which fits a line, and each value one spelling
+-- two updates commute unless one is immediate or both are forced; each operation has one text, which fits a line; and each value that operations make has one spelling, and printable answers
 pub record Lawful {Value Op : Type 0} (m : Meaning Value Op) (kind_of : Op → Kind) : Type 0 where
   pub commute : (v : Value) (a b : Op) → IsUpdate (m.kind a) → IsUpdate (m.kind b) → are_ordered (m.kind a) (m.kind b) ≡ false → m.apply (m.apply v a) b ≡ m.apply (m.apply v b) a
   pub kinds : (op : Op) → m.kind op ≡ kind_of op
@@ -29,6 +29,8 @@ pub record Lawful {Value Op : Type 0} (m : Meaning Value Op) (kind_of : Op → K
   pub some_text : (op : Op) → m.is_op op ≡ true → 1 ≤ length (m.text op)
   pub short_text : (op : Op) → m.is_op op ≡ true → length (m.text op) < 2 ^ 16
   pub printable_text : (op : Op) → m.is_op op ≡ true → is_printable (m.text op) ≡ true
-  pub printable_answer : (v : Value) (op : Op) → is_printable (m.read v op) ≡ true
-  pub spelled : (v : Value) → m.is_value v ≡ true → m.decoded (m.spelling v) ≡ Good v
+  pub start_is : m.is_value m.start ≡ true
+  pub stays : (v : Value) (op : Op) → m.is_value v ≡ true → m.is_op op ≡ true → m.is_value (m.apply v op) ≡ true
+  pub printable_answer : (v : Value) (op : Op) → m.is_value v ≡ true → is_printable (m.read v op) ≡ true
+  pub spelled : (v : Value) → m.is_value v ≡ true → length (m.spelling v) < 2 ^ 64 → m.decoded (m.spelling v) ≡ Good v
   pub one_spelling : (bytes : List ℕ) (v : Value) → are_bytes bytes ≡ true → m.decoded bytes ≡ Good v → (m.spelling v ≡ bytes) × (m.is_value v ≡ true)
