@@ -2,6 +2,8 @@ pub mod Changes
 pub mod Formats
 pub mod Parts
 pub mod Tables
+pub mod TableValues
 pub mod TextLaws
 pub mod Word
+pub mod WordOrder
 pub mod WordTexts
