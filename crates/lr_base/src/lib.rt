@@ -9,6 +9,7 @@ pub mod lr_service;
 mod messages;
 mod names;
 mod numbers;
+mod orders;
 mod rows;
 mod stamp;
 pub mod svc_tally;

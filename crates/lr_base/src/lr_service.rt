@@ -3,6 +3,7 @@ ghost use Rattle.std.specs.Prelude.{◌≡◌, ◌≢◌, ◌++◌, true, IfOk, 
 ghost use Rattle.lr_base.specs.Kinds.{IsQuery, IsUpdate};
 ghost use Rattle.lr_base.specs.Meaning.{Meaning, Lawful};
 
+pub use crate::orders::agreeing_orders_give_one_value;
 use crate::rows::{NoMemory, Text};
 use std::alloc::Global;
 
