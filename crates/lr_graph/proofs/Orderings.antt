@@ -1,5 +1,5 @@
--- Every order of a set's acceptances that agrees where kinds need one order gives the set's value.
-use Rattle.std.proofs.Common.{◌≡◌, ◌≢◌, ℕ, Bool, true, false, cond, not, ◌&&◌, ◌||◌, if◌then◌else◌, ◌⊎◌, inl, inr, List, [], ◌∷◌, ◌++◌, map, refl, sym, ap, ◌∙◌, subst, true≢false}
+-- Every order of a set's acceptances that agrees where kinds need one order gives the set's value, and the order of making is one.
+use Rattle.std.proofs.Common.{◌≡◌, ◌≢◌, ℕ, Bool, true, false, cond, not, ◌&&◌, ◌||◌, if◌then◌else◌, ◌⊎◌, inl, inr, List, [], ◌∷◌, ◌++◌, filter, map, refl, sym, ap, ◌∙◌, subst, true≢false}
 use Rattle.lr_base.specs.Kinds.{IsUpdate, are_ordered, is_query}
 use Rattle.lr_base.specs.Meaning.{Lawful, Meaning}
 use Rattle.lr_base.specs.OrderLaws.{apply_all-behind, before-first, before-second, one-value, ordered-opposites}
@@ -10,17 +10,18 @@ use Rattle.lr_base.specs.declared.lr_service.Kind.{Kind}
 use Rattle.lr_base.specs.declared.names.Cid.{Cid}
 use Rattle.lr_base.specs.declared.names.Config.{Config}
 use Rattle.lr_graph.specs.Central.{facts_after}
-use Rattle.lr_graph.specs.Closed.{Each, IsAmong}
+use Rattle.lr_graph.specs.Closed.{Each, HasApartSpots, HasOlderCauses, IsAmong, IsSound, causes}
 use Rattle.lr_graph.specs.Graph.{Acceptance, first_facts, has_call, ready, value}
 use Rattle.lr_graph.specs.Legal.{IsLegal}
-use Rattle.lr_graph.specs.Orderings.{IsOrderOf, everything}
+use Rattle.lr_graph.specs.Orderings.{FollowsCauses, IsOrderOf, everything}
 use Rattle.lr_graph.specs.Runs.{IsEventOf, first_run, history_of, run_after}
-use Rattle.lr_graph.specs.Sets.{SpotSet}
+use Rattle.lr_graph.specs.Sets.{SpotSet, same_spot}
 use Rattle.lr_graph.proofs.Law.{history-events, made-legal, one-history, same-after, steps-made}
-use Rattle.lr_graph.proofs.Members.{among-left, among-right, each-at}
+use Rattle.lr_graph.proofs.Members.{among-filter, among-left, among-right, each-at, each-from, each-map, filter-each}
+use Rattle.lr_graph.proofs.ReadySets.{below-parts, causes-accepted, self-below}
 use Rattle.lr_graph.proofs.Relation.{IsSame, calls_in}
 use Rattle.lr_graph.proofs.Stepping.{all-free, one-call}
-use Rattle.lr_graph.proofs.Tests.{and-intro, and-left, and-right, not-false, or-false, same_cid-is}
+use Rattle.lr_graph.proofs.Tests.{and-intro, and-left, and-right, never, not-false, or-cases, or-false, same_cid-is, same_spot-is, same_spot-self}
 use Rattle.lr_graph.proofs.Ties.{HasOneCall, IsFree}
 use Rattle.lr_graph.proofs.Values.{holds-has_call}
 
@@ -169,6 +170,49 @@ module _ {Value Op : Type 0} (m : Meaning Value Op) where
       let kinds : are_ordered (m.kind a.op) (m.kind b.op) ≡ are_ordered (m.kind first.0.op) (m.kind second.0.op) = λ i. are_ordered (m.kind (first.3 i).op) (m.kind (second.3 i).op) in
       absurd (true≢false (sym ordered ∙ kinds ∙ none))
 
+-- ---- the order of making
+
+module _ {Op : Type 0} where
+  -- no acceptance is below an older one
+  follows-made : (l : List (Acceptance Op)) → HasApartSpots l → HasOlderCauses l → FollowsCauses l
+  follows-made [] apart older = tt
+  follows-made (a ∷ l) apart older = (each-from _ l (λ b member. never (b.below a.spot) (λ below. new b member (or-cases (causes b a.spot) _ (sym (below-parts b (self-below l older.2 b member) a.spot) ∙ below)))), follows-made l apart.1 older.2)
+    where
+      taken : (c : Acceptance Op) → IsAmong c l → c.spot ≡ a.spot → ⊥
+      taken c member is = true≢false (sym (ap (same_spot c.spot) (sym is) ∙ same_spot-self c.spot) ∙ each-at _ c l apart.0 member)
+
+      new : (b : Acceptance Op) → IsAmong b l → (causes b a.spot ≡ true) ⊎ (same_spot a.spot b.spot ≡ true) → ⊥
+      new b member (inl cause) = let found = causes-accepted l older.2 b member a.spot cause in taken found.0 found.1 found.2
+      new b member (inr one) = taken b member (sym (same_spot-is a.spot b.spot one))
+
+  each-kept : (P : Acceptance Op → Type 0) (p : Acceptance Op → Bool) (l : List (Acceptance Op)) → Each P l → Each P (filter p l)
+  each-kept P p l all = each-map _ P (filter p l) (λ a h. h.0) (filter-each P p l all)
+
+  follows-kept : (p : Acceptance Op → Bool) (l : List (Acceptance Op)) → FollowsCauses l → FollowsCauses (filter p l)
+  follows-kept p [] follows = tt
+  follows-kept p (a ∷ l) follows = at_head (p a) (each-kept (λ b. b.below a.spot ≡ false) p l follows.0) (follows-kept p l follows.1)
+    where
+      at_head : (t : Bool) → Each (λ b. b.below a.spot ≡ false) (filter p l) → FollowsCauses (filter p l) → FollowsCauses (cond t (a ∷ filter p l) (filter p l))
+      at_head true first rest = (first, rest)
+      at_head false first rest = rest
+
+  apart-kept : (p : Acceptance Op → Bool) (l : List (Acceptance Op)) → HasApartSpots l → HasApartSpots (filter p l)
+  apart-kept p [] apart = tt
+  apart-kept p (a ∷ l) apart = at_head (p a) (each-kept (λ b. same_spot b.spot a.spot ≡ false) p l apart.0) (apart-kept p l apart.1)
+    where
+      at_head : (t : Bool) → Each (λ b. same_spot b.spot a.spot ≡ false) (filter p l) → HasApartSpots (filter p l) → HasApartSpots (cond t (a ∷ filter p l) (filter p l))
+      at_head true first rest = (first, rest)
+      at_head false first rest = rest
+
+  -- the order of making is one
+  pub made-order : (l : List (Acceptance Op)) (x : SpotSet) → IsSound l → IsOrderOf l x (filter (λ a. x a.spot) l)
+  made-order l x sound = record {
+    apart = apart-kept (λ a. x a.spot) l sound.apart;
+    inside = filter-each (λ a. IsAmong a l) (λ a. x a.spot) l (each-from _ l (λ a member. member));
+    all = each-from _ l (λ a member here. among-filter (λ a. x a.spot) a l member here);
+    follows = follows-kept (λ a. x a.spot) l (follows-made l sound.apart sound.older);
+  }
+
 -- ---- legal histories
 
 module _ {Value Op : Type 0} (m : Meaning Value Op) (kind_of : Op → Kind) (lawful : Lawful m kind_of) (config : Config) where
@@ -197,3 +241,11 @@ module _ {Value Op : Type 0} (m : Meaning Value Op) (kind_of : Op → Kind) (law
       let set = ready w.accepted (w.received i) in
       let free = all-free m config same.issued (calls_in w) w.accepted same.shared.each in
       agreeing-value m kind_of lawful w.accepted set order (one-call m config same.issued (calls_in w) w.accepted same.shared.each) free.updates is (free-agree m w.accepted set order free is)
+
+  -- what is ready in the order of making is one of these
+  pub ready-order : (steps : List (Step Op)) → Each (λ step. IsEventOf m config step.event) steps → IsLegal m config steps → (i : ℕ)
+      → IsOrderOf (facts_after first_facts steps).accepted (ready (facts_after first_facts steps).accepted ((facts_after first_facts steps).received i))
+      (filter (λ a. ready (facts_after first_facts steps).accepted ((facts_after first_facts steps).received i) a.spot) (facts_after first_facts steps).accepted)
+  ready-order steps fit legal i =
+      let w = facts_after first_facts steps in
+      made-order w.accepted (ready w.accepted (w.received i)) (legal-same steps fit legal).shared.sound

@@ -1,5 +1,5 @@
 //! Laws about legal histories: each function does nothing, and its contract is the law.
-ghost use Rattle.std.specs.Prelude.{◌≡◌, ◌++◌, ◌∷◌, ℕ, [], List, map};
+ghost use Rattle.std.specs.Prelude.{◌≡◌, ◌++◌, ◌∷◌, ℕ, [], List, filter, map};
 ghost use Rattle.lr_graph.specs.Central.{IsCentral, facts_after};
 ghost use Rattle.lr_graph.specs.Closed.{Each, IsClosed, IsSound, IsWithin};
 ghost use Rattle.lr_graph.specs.Graph.{Acceptance, first_facts, ready, value};
@@ -47,7 +47,8 @@ pub fn ready_is_the_greatest_closed_set<S: Service>()
     ensures greatest { (accepted : List (Acceptance S.Op)) (received set : SpotSet) → IsWithin accepted set received → IsClosed accepted set → IsWithin accepted set (ready accepted received) }
 {}
 
-/// Every order of what is ready at a replica in which each acceptance follows its causes gives the replica's value.
+/// Every order of what is ready at a replica in which each acceptance follows its causes gives the replica's value. What is ready in the order of making is such an order.
 pub fn every_order_gives_one_value<S: Service>()
-    ensures { (config : Config) (steps : List (Step S.Op)) → Each (λ step. IsEventOf S.meaning config step.event) steps → IsLegal S.meaning config steps → (i : ℕ) (order : List (Acceptance S.Op)) → let w = facts_after first_facts steps in let at_hand = ready w.accepted (w.received i) in IsOrderOf w.accepted at_hand order → value S.meaning order everything ≡ value S.meaning w.accepted at_hand }
+    ensures value { (config : Config) (steps : List (Step S.Op)) → Each (λ step. IsEventOf S.meaning config step.event) steps → IsLegal S.meaning config steps → (i : ℕ) (order : List (Acceptance S.Op)) → let w = facts_after first_facts steps in let at_hand = ready w.accepted (w.received i) in IsOrderOf w.accepted at_hand order → value S.meaning order everything ≡ value S.meaning w.accepted at_hand }
+    ensures own { (config : Config) (steps : List (Step S.Op)) → Each (λ step. IsEventOf S.meaning config step.event) steps → IsLegal S.meaning config steps → (i : ℕ) → let w = facts_after first_facts steps in let at_hand = ready w.accepted (w.received i) in IsOrderOf w.accepted at_hand (filter (λ a. at_hand a.spot) w.accepted) }
 {}
