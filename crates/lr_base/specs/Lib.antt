@@ -6,6 +6,8 @@ pub mod Kinds
 pub mod Lattice
 pub mod Logged
 pub mod Meaning
+pub mod OrderLaws
+pub mod Orders
 pub mod Replicas
 pub mod Rules
 pub mod StampLaws

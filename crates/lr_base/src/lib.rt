@@ -10,6 +10,7 @@ pub mod lr_service;
 mod messages;
 mod names;
 mod numbers;
+mod orders;
 mod rows;
 mod stamp;
 

@@ -5,6 +5,7 @@ ghost use Rattle.lr_base.specs.Kinds.{IsQuery, IsUpdate};
 ghost use Rattle.lr_base.specs.Meaning.{Meaning, Lawful};
 
 use crate::bytes::GetFault;
+pub use crate::orders::agreeing_orders_give_one_value;
 use crate::rows::{NoMemory, Rows, Text};
 use std::alloc::Global;
 

@@ -1,6 +1,7 @@
 -- The calls and the value of a set with one acceptance more.
 use Rattle.std.proofs.Common.{◌≡◌, Bool, true, false, cond, not, ◌&&◌, ◌||◌, ◌⊎◌, inl, inr, List, [], ◌∷◌, refl, sym, ap, ◌∙◌}
 use Rattle.lr_base.specs.Meaning.{Meaning}
+pub use Rattle.lr_base.specs.Orders.{Commute}
 use Rattle.lr_base.specs.Rules.{same_cid}
 use Rattle.lr_base.specs.declared.names.Cid.{Cid}
 use Rattle.lr_graph.specs.Closed.{Each, IsAmong, HasApartSpots}
@@ -52,10 +53,6 @@ has_call-same [] x y cid same = refl
 has_call-same (a ∷ l) x y cid same = λ i. (same.0 i && same_cid cid a.cid) || has_call-same l x y cid same.1 i
 
 -- ---- the value of a set
-
--- it makes no difference which of two operations comes first
-abbrev pub Commute : {Value Op : Type 0} → Meaning Value Op → Op → Op → Type 0
-Commute {Value} m a b = (v : Value) → m.apply (m.apply v a) b ≡ m.apply (m.apply v b) a
 
 -- an acceptance commutes with each of the set that was made after it
 abbrev pub CommutesWithNewer : {Value Op : Type 0} → Meaning Value Op → SpotSet → Acceptance Op → List (Acceptance Op) → Type 0

@@ -1,13 +1,9 @@
 -- What holds of acceptances and of sets of them: causes exist, come before, and come along.
-use Rattle.std.specs.Prelude.{◌≡◌, ◌<◌, ◌⊎◌, true, false, not, ◌&&◌, List, [], ◌∷◌}
+use Rattle.std.specs.Prelude.{◌≡◌, ◌<◌, true, false, not, ◌&&◌, List, [], ◌∷◌}
+pub use Rattle.lr_base.specs.Orders.{IsAmong}
 use Rattle.lr_base.specs.declared.names.Spot.{Spot}
 use Rattle.lr_graph.specs.Graph.{Acceptance}
 use Rattle.lr_graph.specs.Sets.{SpotSet, same_spot}
-
--- x is in the list
-abbrev pub IsAmong : {A : Type 0} → A → List A → Type 0
-IsAmong x [] = ⊥
-IsAmong x (first ∷ rest) = (x ≡ first) ⊎ IsAmong x rest
 
 -- P holds of each element of the list
 abbrev pub Each : {A : Type 0} → (A → Type 0) → List A → Type 0

@@ -9,3 +9,4 @@ pub mod Made
 pub mod Closed
 pub mod Names
 pub mod Central
+pub mod Orderings

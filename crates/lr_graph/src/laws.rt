@@ -1,10 +1,11 @@
 //! Laws about legal histories: each function does nothing, and its contract is the law.
-ghost use Rattle.std.specs.Prelude.{◌≡◌, ◌++◌, ◌∷◌, [], List, map};
+ghost use Rattle.std.specs.Prelude.{◌≡◌, ◌++◌, ◌∷◌, ℕ, [], List, filter, map};
 ghost use Rattle.lr_graph.specs.Central.{IsCentral, facts_after};
 ghost use Rattle.lr_graph.specs.Closed.{Each, IsClosed, IsSound, IsWithin};
-ghost use Rattle.lr_graph.specs.Graph.{Acceptance, first_facts, ready};
+ghost use Rattle.lr_graph.specs.Graph.{Acceptance, first_facts, ready, value};
 ghost use Rattle.lr_graph.specs.Legal.{IsLegal};
 ghost use Rattle.lr_graph.specs.Made.{IsMade, made_step};
+ghost use Rattle.lr_graph.specs.Orderings.{IsOrderOf, everything};
 ghost use Rattle.lr_graph.specs.Runs.{IsEventOf, RunState, first_run, history_of, run_after, stepped};
 ghost use Rattle.lr_graph.specs.Sets.{SpotSet};
 
@@ -44,4 +45,10 @@ pub fn ready_is_the_greatest_closed_set<S: Service>()
     ensures received { (accepted : List (Acceptance S.Op)) (received : SpotSet) → IsWithin accepted (ready accepted received) received }
     ensures closed { (accepted : List (Acceptance S.Op)) (received : SpotSet) → IsSound accepted → IsClosed accepted (ready accepted received) }
     ensures greatest { (accepted : List (Acceptance S.Op)) (received set : SpotSet) → IsWithin accepted set received → IsClosed accepted set → IsWithin accepted set (ready accepted received) }
+{}
+
+/// Every order of what is ready at a replica in which each acceptance follows its causes gives the replica's value. What is ready in the order of making is such an order.
+pub fn every_order_gives_one_value<S: Service>()
+    ensures value { (config : Config) (steps : List (Step S.Op)) → Each (λ step. IsEventOf S.meaning config step.event) steps → IsLegal S.meaning config steps → (i : ℕ) (order : List (Acceptance S.Op)) → let w = facts_after first_facts steps in let at_hand = ready w.accepted (w.received i) in IsOrderOf w.accepted at_hand order → value S.meaning order everything ≡ value S.meaning w.accepted at_hand }
+    ensures own { (config : Config) (steps : List (Step S.Op)) → Each (λ step. IsEventOf S.meaning config step.event) steps → IsLegal S.meaning config steps → (i : ℕ) → let w = facts_after first_facts steps in let at_hand = ready w.accepted (w.received i) in IsOrderOf w.accepted at_hand (filter (λ a. at_hand a.spot) w.accepted) }
 {}

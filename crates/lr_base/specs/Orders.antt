@@ -1,0 +1,54 @@
+-- Orders of updates: which updates they have, which of two stands before the other, and the value that they give.
+use Rattle.std.specs.Prelude.{◌≡◌, ◌≢◌, ◌⊎◌, true, List, [], ◌∷◌}
+use Rattle.lr_base.specs.Kinds.{IsUpdate, are_ordered}
+use Rattle.lr_base.specs.Meaning.{Meaning}
+
+-- an update with a key that tells it from the others, since two updates may have one operation
+pub record Keyed (Key Op : Type 0) : Type 0 where
+  pub key : Key
+  pub op : Op
+
+-- x is in the list
+abbrev pub IsAmong : {A : Type 0} → A → List A → Type 0
+IsAmong x [] = ⊥
+IsAmong x (first ∷ rest) = (x ≡ first) ⊎ IsAmong x rest
+
+-- a stands before b in the list
+abbrev pub IsBefore : {A : Type 0} → A → A → List A → Type 0
+IsBefore a b [] = ⊥
+IsBefore a b (first ∷ rest) = ((a ≡ first) × IsAmong b rest) ⊎ IsBefore a b rest
+
+-- no key stands twice in the list
+abbrev pub HasEachOnce : {Key Op : Type 0} → List (Keyed Key Op) → Type 0
+HasEachOnce [] = Unit {0}
+HasEachOnce {Key} {Op} (first ∷ rest) = ((u : Keyed Key Op) → IsAmong u rest → u.key ≢ first.key) × HasEachOnce rest
+
+-- two orders have the same updates: each has none twice, and what is among one is among the other
+pub record HasSameUpdates {Key Op : Type 0} (one other : List (Keyed Key Op)) : Type 0 where
+  pub once : HasEachOnce one
+  pub other_once : HasEachOnce other
+  pub into : (u : Keyed Key Op) → IsAmong u one → IsAmong u other
+  pub back : (u : Keyed Key Op) → IsAmong u other → IsAmong u one
+
+-- the value after these updates, the first of the list applied first
+abbrev pub apply_all : {Value Op Key : Type 0} → Meaning Value Op → Value → List (Keyed Key Op) → Value
+apply_all m v [] = v
+apply_all m v (first ∷ rest) = apply_all m (m.apply v first.op) rest
+
+-- it makes no difference which of two operations comes first
+abbrev pub Commute : {Value Op : Type 0} → Meaning Value Op → Op → Op → Type 0
+Commute {Value} m a b = (v : Value) → m.apply (m.apply v a) b ≡ m.apply (m.apply v b) a
+
+-- each two updates of an order commute, or the other order agrees on them
+abbrev pub AgreeUnlessCommuting : {Value Op Key : Type 0} → Meaning Value Op → List (Keyed Key Op) → List (Keyed Key Op) → Type 0
+AgreeUnlessCommuting {Value} {Op} {Key} m one other =
+    (a b : Keyed Key Op) → IsAmong a one → IsAmong b one → Commute m a.op b.op ⊎ (IsBefore a b one → IsBefore a b other)
+
+-- the other order agrees on each two updates whose kinds need one order
+abbrev pub AgreeWhereOrdered : {Value Op Key : Type 0} → Meaning Value Op → List (Keyed Key Op) → List (Keyed Key Op) → Type 0
+AgreeWhereOrdered {Value} {Op} {Key} m one other =
+    (a b : Keyed Key Op) → are_ordered (m.kind a.op) (m.kind b.op) ≡ true → IsBefore a b one → IsBefore a b other
+
+-- each operation of the order is an update
+abbrev pub AreUpdates : {Value Op Key : Type 0} → Meaning Value Op → List (Keyed Key Op) → Type 0
+AreUpdates {Value} {Op} {Key} m order = (u : Keyed Key Op) → IsAmong u order → IsUpdate (m.kind u.op)
