@@ -3,7 +3,7 @@ use Rattle.std.proofs.Common.{◌≡◌, ◌≤◌, ◌⊎◌, inl, inr, ℕ, Li
 use Rattle.std.specs.Prelude.{Option}
 use Rattle.std.specs.Io.KnownBytes.{Appends}
 use Rattle.std.proofs.KnownBytes.{Appends-nil}
-use Rattle.lr_base.specs.Tally.{tally}
+use Rattle.svc_tally.specs.Tally.{tally}
 use Rattle.lr_outside.specs.Faults.{Rose}
 use Rattle.lr_sim.specs.Ends.{IsComplete, SimEnded, SimMeans, no_memory}
 use Rattle.lr_sim.specs.declared.command.SimEnd.{SimEnd}

@@ -4,7 +4,7 @@ use Rattle.std.specs.Fmt.{decimal}
 use Rattle.std.specs.Io.KnownBytes.{Appends}
 use Rattle.std.specs.declared.alloc.Global.{Global}
 use Rattle.lr_outside.specs.Faults.{Rose}
-use Rattle.lr_base.specs.Tally.{tally}
+use Rattle.svc_tally.specs.Tally.{tally}
 use Rattle.lr_sim.specs.Ends.{IsComplete, SimEnded, SimMeans}
 use Rattle.lr_sim.specs.declared.command.SimEnd.{SimEnd}
 use Rattle.lr_sim.specs.declared.command.SimEnd.TheVariants.{Ok as Done, Script, ReadFault, WriteFault, NoMemory}

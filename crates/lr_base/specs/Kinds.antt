@@ -1,5 +1,5 @@
 -- Kinds of operations, and which pairs of updates need one order.
-use Rattle.std.specs.Prelude.{◌≡◌, Bool, true, false, ◌&&◌, ◌||◌}
+use Rattle.std.specs.Prelude.{◌≡◌, Bool, true, false, ◌&&◌, ◌||◌, not}
 use Rattle.lr_base.specs.declared.lr_service.Kind.{Kind}
 use Rattle.lr_base.specs.declared.lr_service.Kind.TheVariants.{Query, Forced, Immediate}
 
@@ -27,6 +27,10 @@ IsUpdate kind = is_query kind ≡ false
 pub record IsPlain (kind : Kind) : Type 0 where
   pub not_forced : is_forced kind ≡ false
   pub not_immediate : is_immediate kind ≡ false
+
+-- operations of this kind have rules in a run
+abbrev pub has_rules : Kind → Bool
+has_rules kind = not (is_forced kind) && not (is_immediate kind)
 
 -- two updates of these kinds need one order everywhere: one is immediate, or both are forced
 abbrev pub are_ordered : Kind → Kind → Bool

@@ -7,7 +7,7 @@ ghost use Rattle.lr_causal.specs.State.{config_of, state_of};
 
 use crate::{Causal, late};
 use lr_base::lr_service::{Kind, Operation, Service};
-use lr_base::svc_tally::{Tally, TallyOp};
+use svc_tally::{Tally, TallyOp};
 use lr_base::{Call, Cid, Config, Fresh, Gossip, LogAck, Rows, Spot, Stamp, Text};
 use lr_log::is_new;
 use std::alloc::Global;

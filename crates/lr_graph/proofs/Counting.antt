@@ -5,8 +5,8 @@ use Rattle.std.specs.Cmp.Lexicographic.{nat_list_cmp_total, slice_cmp}
 use Rattle.std.specs.FinMap.{empty, get, insert, get-empty, get-insert}
 use Rattle.std.specs.Fmt.{decimal}
 use Rattle.std.specs.Ordering.{nat_cmp}
-use Rattle.lr_base.specs.Tally.{Counts, count_of, tally_apply, tally_read}
-use Rattle.lr_base.specs.declared.svc_tally.op.TallyOp.TheVariants.{Add, Read}
+use Rattle.svc_tally.specs.Tally.{Counts, count_of, tally_apply, tally_read}
+use Rattle.svc_tally.specs.declared.op.TallyOp.TheVariants.{Add, Read}
 
 -- the read sees the addition
 pub three-read : tally_read (tally_apply empty (Add (codes "x") 3)) (Read (codes "x")) ≡ codes "3"

@@ -10,8 +10,8 @@ use Rattle.lr_base.specs.declared.names.Actor.TheVariants.{Client, Replica}
 use Rattle.lr_base.specs.declared.names.Cid.{Cid}
 use Rattle.lr_base.specs.declared.names.Config.{Config}
 use Rattle.lr_base.specs.declared.names.Spot.{Spot}
-use Rattle.lr_base.specs.declared.svc_tally.op.TallyOp.{TallyOp}
-use Rattle.lr_base.specs.declared.svc_tally.op.TallyOp.TheVariants.{Add, Read}
+use Rattle.svc_tally.specs.declared.op.TallyOp.{TallyOp}
+use Rattle.svc_tally.specs.declared.op.TallyOp.TheVariants.{Add, Read}
 
 -- one replica, one client, and a delta of 10
 abbrev pub small : Config

@@ -1,6 +1,6 @@
 //! Laws about small histories: each function does nothing, and its contract is the law.
 ghost use Rattle.std.specs.Prelude.{[], ◌∷◌, codes};
-ghost use Rattle.lr_base.specs.Tally.{tally};
+ghost use Rattle.svc_tally.specs.Tally.{tally};
 ghost use Rattle.lr_base.specs.declared.events.Outcome.TheVariants.{Got};
 ghost use Rattle.lr_graph.specs.Legal.{IsLegal};
 ghost use Rattle.lr_graph.specs.Worked.{add_and_read, first_call, small};

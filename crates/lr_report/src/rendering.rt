@@ -28,6 +28,8 @@ fn put_service(service: Name, out: &mut Text) -> Result<(), NoMemory>
 {
     match service {
         Name::Tally => out.extend(b"tally"),
+        Name::Mail => out.extend(b"mail"),
+        Name::Claims => out.extend(b"claims"),
     }
 }
 

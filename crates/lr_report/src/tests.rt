@@ -1,7 +1,7 @@
 //! The lines of outcomes, of a whole step and of a header, worked by hand.
 use crate::{render_header, render_step};
 use lr_base::lr_service::Service;
-use lr_base::svc_tally::{Tally, TallyOp};
+use svc_tally::{Tally, TallyOp};
 use lr_base::{
     Actor, Cid, Config, Event, NoMemory, Outcome, Refusal, Rows, Sent, Spot, Stamp, StateLine, Step,
 };

@@ -10,7 +10,7 @@ use Rattle.lr_script.specs.Fields.{spaces, IsField, IsConfigFields, word_text}
 use Rattle.lr_script.specs.Script.{IsSetUp}
 use Rattle.lr_script.specs.Texts.{config_text, service_text}
 use Rattle.lr_script.specs.declared.heading.Name.{Name}
-use Rattle.lr_script.specs.declared.heading.Name.TheVariants.{Tally}
+use Rattle.lr_script.specs.declared.heading.Name.TheVariants.{Tally, Mail, Claims}
 use Rattle.lr_script.specs.declared.fields.EventWord.{EventWord}
 use Rattle.lr_script.specs.declared.fields.EventWord.TheVariants.{Call, Deliver, Gossip, Show}
 use Rattle.lr_script.specs.CutLaws.{cut_one}
@@ -68,6 +68,8 @@ head_field line field (Some rest) f r is e h = (field_one field f rest.now r (sy
 
 pub service_spaceless : (service : Name) → spaces (service_text service) ≡ 0
 service_spaceless Tally = refl
+service_spaceless Mail = refl
+service_spaceless Claims = refl
 
 digit_spaceless : (x : ℕ) → 48 ≤ x → eqb x 32 ≡ false
 digit_spaceless x h = grind (arith, nat_tests)

@@ -1,5 +1,5 @@
 -- No script is refused, and each has one header.
-use Rattle.std.proofs.Common.{◌≡◌, ◌≢◌, ℕ, suc, drop, append_assoc, subst, ◌≤◌, List, [], ◌∷◌, ◌++◌, length, refl, sym, ◌∙◌, ap, arith, inl, inr, Result, Ok, Err}
+use Rattle.std.proofs.Common.{◌≡◌, ◌≢◌, ℕ, suc, drop, append_assoc, subst, ◌≤◌, List, [], ◌∷◌, ◌++◌, get_or, length, refl, sym, ◌∙◌, ap, arith, inl, inr, Result, Ok, Err}
 use Rattle.std.specs.Prelude.{IfOk}
 use Rattle.std.specs.List.{All}
 use Rattle.std.specs.Fmt.{decimal}
@@ -10,7 +10,7 @@ use Rattle.lr_base.specs.declared.names.Config.{Config}
 use Rattle.lr_script.specs.declared.refusals.Cause.{Cause}
 use Rattle.lr_script.specs.declared.heading.Header.{Header}
 use Rattle.lr_script.specs.declared.heading.Name.{Name}
-use Rattle.lr_script.specs.declared.heading.Name.TheVariants.{Tally}
+use Rattle.lr_script.specs.declared.heading.Name.TheVariants.{Tally, Mail, Claims}
 use Rattle.lr_script.specs.declared.refusals.ScriptFault.{ScriptFault}
 use Rattle.lr_script.specs.declared.refusals.ScriptFault.TheVariants.{Line, NoMemory}
 use Rattle.lr_script.specs.Fields.{IsConfigFields}
@@ -52,8 +52,21 @@ same_config a b r c d = λ i. record { replicas = r i; clients = c i; delta = d 
 same_header : (a b : Header) → a.service ≡ b.service → a.config ≡ b.config → a ≡ b
 same_header a b s c = λ i. record { service = s i; config = c i }
 
-service_is : (name : Name) → name ≡ Tally
-service_is Tally = refl
+-- the first bytes of services' names tell them apart
+apart : (a b : List ℕ) → a ≡ b → get_or a 0 0 ≢ get_or b 0 0 → ⊥
+apart a b same other = other (ap (λ text. get_or text 0 0) same)
+
+-- a service's name is one service's
+service_one : (a b : Name) → service_text a ≡ service_text b → a ≡ b
+service_one Tally Tally same = refl
+service_one Mail Mail same = refl
+service_one Claims Claims same = refl
+service_one Tally Mail same = absurd (apart _ _ same (omega arith))
+service_one Tally Claims same = absurd (apart _ _ same (omega arith))
+service_one Mail Tally same = absurd (apart _ _ same (omega arith))
+service_one Mail Claims same = absurd (apart _ _ same (omega arith))
+service_one Claims Tally same = absurd (apart _ _ same (omega arith))
+service_one Claims Mail same = absurd (apart _ _ same (omega arith))
 
 config_fields : (config : Config) → IsSetUp config → IsConfigFields (config_text config) (decimal config.replicas) (decimal config.clients) (decimal config.delta)
 config_fields config set = record {
@@ -68,7 +81,7 @@ header_one a b set other e =
     let behind : service_text a.service ++ 32 ∷ config_text a.config ≡ service_text b.service ++ 32 ∷ config_text b.config = ap (drop 10) e in
     let cut = field_one (service_text a.service) (service_text b.service) (config_text a.config) (config_text b.config) behind (service_spaceless a.service) (service_spaceless b.service) in
     let one = config_one (config_text a.config) (decimal a.config.replicas) (decimal a.config.clients) (decimal a.config.delta) b.config (config_fields a.config set) other cut.1 in
-    same_header a b (service_is a.service ∙ sym (service_is b.service)) (same_config a.config b.config
+    same_header a b (service_one a.service b.service cut.0) (same_config a.config b.config
     (decimal_injective a.config.replicas b.config.replicas (omega arith) (omega arith) one.0)
     (decimal_injective a.config.clients b.config.clients (omega arith) (omega arith) one.1)
     (decimal_injective a.config.delta b.config.delta set.number other.number one.2))

@@ -15,7 +15,7 @@ use Rattle.lr_script.specs.declared.fields.EventWord.TheVariants.{Call, Deliver,
 use Rattle.lr_script.specs.declared.heading.Header.{Header as Head}
 use Rattle.lr_base.specs.declared.events.Event.{Event}
 use Rattle.lr_script.specs.Texts.{header_text}
-use Rattle.lr_script.specs.Script.{line_of, events_text, IsSetUp, Fits, IsNoScript}
+use Rattle.lr_script.specs.Script.{line_of, events_text, IsNoCalled, IsSetUp, Fits, IsNoScript}
 use Rattle.lr_script.specs.Fields.{spaces, word_text, four_fields, IsCallFields, IsNoNumber, IsPair}
 
 -- there is a line feed among the bytes
@@ -60,7 +60,7 @@ pub record IsOutOfRange (config : Config) (fields : List ℕ) : Type 0 where
   pub reading_number : reading < 2 ^ 64
   pub bad : (config.clients ≤ client) ⊎ (config.replicas ≤ replica)
 
--- there are such a client and such a replica, and the rest is no operation
+-- there are such a client and such a replica, and the rest is no operation that has rules
 pub record HasNoOp {Value Op : Type 0} (m : Meaning Value Op) (config : Config) (fields : List ℕ) : Type 0 where
   pub client : ℕ
   pub replica : ℕ
@@ -70,7 +70,7 @@ pub record HasNoOp {Value Op : Type 0} (m : Meaning Value Op) (config : Config) 
   pub known_client : client < config.clients
   pub known_replica : replica < config.replicas
   pub reading_number : reading < 2 ^ 64
-  pub bad : (other : Op) → m.is_op other ≡ true → m.text other ≢ op
+  pub bad : IsNoCalled m op
 
 -- what stands behind a call's word is no call
 abbrev pub IsBadCall : {Value Op : Type 0} → Meaning Value Op → Config → List ℕ → Cause → Type 0

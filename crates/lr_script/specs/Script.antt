@@ -1,13 +1,14 @@
 -- What a script says: its header and its events, and which bytes they are written as.
-use Rattle.std.specs.Prelude.{◌≡◌, ◌≢◌, ℕ, ◌<◌, ◌≤◌, ◌^◌, true, List, [], ◌∷◌, ◌++◌, length}
+use Rattle.std.specs.Prelude.{◌≡◌, ◌≢◌, ℕ, ◌<◌, ◌≤◌, ◌^◌, Bool, true, ◌&&◌, List, [], ◌∷◌, ◌++◌, length}
 use Rattle.std.specs.List.{All, flat_map}
 use Rattle.lr_base.specs.Config.{IsValid}
+use Rattle.lr_base.specs.Kinds.{has_rules}
 use Rattle.lr_base.specs.Meaning.{Meaning}
 use Rattle.lr_base.specs.declared.events.Event.{Event}
 use Rattle.lr_base.specs.declared.events.Event.TheVariants.{Call, Deliver, Gossip, Show}
 use Rattle.lr_base.specs.declared.names.Config.{Config}
 use Rattle.lr_script.specs.declared.heading.Header.{Header}
-use Rattle.lr_script.specs.Texts.{header_text, event_text}
+use Rattle.lr_script.specs.Texts.{header_text, event_text, service_number}
 
 -- a line is ended by a line feed
 abbrev pub line_of : List ℕ → List ℕ
@@ -26,9 +27,17 @@ pub record IsSetUp (config : Config) : Type 0 where
   pub valid : IsValid config
   pub number : config.delta < 2 ^ 64
 
--- an event names a client and a replica that there are, numbers that fit, and an operation of the service
+-- an operation of the service, of a kind that has rules
+abbrev pub is_called : {Value Op : Type 0} → Meaning Value Op → Op → Bool
+is_called m op = m.is_op op && has_rules (m.kind op)
+
+-- the text is no such operation's
+abbrev pub IsNoCalled : {Value Op : Type 0} → Meaning Value Op → List ℕ → Type 0
+IsNoCalled {Value} {Op} m text = (op : Op) → is_called m op ≡ true → m.text op ≢ text
+
+-- an event names a client and replicas that there are, gossip two of them, and it has numbers that fit and calls an operation that has rules
 abbrev pub Fits : {Value Op : Type 0} → Meaning Value Op → Config → Event Op → Type 0
-Fits m config (Call client replica reading op) = (client < config.clients) × (replica < config.replicas) × (reading < 2 ^ 64) × (m.is_op op ≡ true)
+Fits m config (Call client replica reading op) = (client < config.clients) × (replica < config.replicas) × (reading < 2 ^ 64) × (is_called m op ≡ true)
 Fits m config (Deliver message) = message < 2 ^ 64
 Fits m config (Gossip from to) = (from < config.replicas) × (to < config.replicas) × (from ≢ to)
 Fits m config (Show replica) = replica < config.replicas
@@ -45,6 +54,10 @@ pub record HasHeader (header : Header) (bytes : List ℕ) : Type 0 where
   pub valid : IsSetUp header.config
   pub rest : List ℕ
   pub text : bytes ≡ line_of (header_text header) ++ rest
+
+-- a header that the bytes begin with names the service of this number
+abbrev pub IsNamed : ℕ → List ℕ → Type 0
+IsNamed number bytes = (header : Header) → HasHeader header bytes → service_number header.service ≡ number
 
 -- the bytes are few enough, and the text of this header and these events
 pub record IsScript {Value Op : Type 0} (m : Meaning Value Op) (header : Header) (events : List (Event Op)) (bytes : List ℕ) : Type 0 where

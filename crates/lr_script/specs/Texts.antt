@@ -7,11 +7,19 @@ use Rattle.lr_base.specs.declared.events.Event.TheVariants.{Call, Deliver, Gossi
 use Rattle.lr_base.specs.declared.names.Config.{Config}
 use Rattle.lr_script.specs.declared.heading.Header.{Header}
 use Rattle.lr_script.specs.declared.heading.Name.{Name}
-use Rattle.lr_script.specs.declared.heading.Name.TheVariants.{Tally}
+use Rattle.lr_script.specs.declared.heading.Name.TheVariants.{Tally, Mail, Claims}
 
 -- a service's name
 abbrev pub service_text : Name → List ℕ
 service_text Tally = codes "tally"
+service_text Mail = codes "mail"
+service_text Claims = codes "claims"
+
+-- a service's number, as it stands in stable bytes
+abbrev pub service_number : Name → ℕ
+service_number Tally = 1
+service_number Mail = 2
+service_number Claims = 3
 
 -- the counts of replicas and clients, and how long a message may be under way
 abbrev pub config_text : Config → List ℕ

@@ -1,15 +1,16 @@
 //! The lines of events, read and printed.
-ghost use Rattle.std.specs.Prelude.{◌≡◌, ◌≢◌, ◌++◌, ◌<◌, codes, IfOk, IfErr, OnOk, IfSome, IsNone, string_bytes};
+ghost use Rattle.std.specs.Prelude.{◌≡◌, ◌≢◌, true, ◌++◌, ◌<◌, codes, IfOk, IfErr, OnOk, IfSome, IsNone, string_bytes};
 ghost use Rattle.std.specs.Fmt.{decimal};
 ghost use Rattle.lr_base.specs.declared.names.Config.{Config};
 ghost use Rattle.lr_script.specs.Fields.{spaces, IsCallFields, IsPair};
 ghost use Rattle.lr_script.specs.Faults.{IsBecause, IsBadEvent, IsBadCall, IsBadDeliver, IsBadGossip, IsBadShow};
-ghost use Rattle.lr_script.specs.Script.{Fits};
+ghost use Rattle.lr_script.specs.Script.{Fits, IsNoCalled, is_called};
+ghost use Rattle.lr_script.specs.declared.refusals.Cause.{Cause};
 ghost use Rattle.lr_script.specs.Texts.{event_text};
 
 use crate::Cause;
 use crate::fields::{EventWord, is_one_field, split_field, word_of};
-use lr_base::lr_service::{OpFault, Service};
+use lr_base::lr_service::{Kind, OpFault, Service};
 use lr_base::{Config, Event, NoMemory, Text, read_number};
 use std::alloc::{AllocError, Global};
 
@@ -102,13 +103,26 @@ fn read_call<S: Service>(
     if config.replicas as u64 <= replica {
         return Err(EventFault::Bad(Cause::Range));
     }
-    match S::read_op(alloc, op) {
-        Ok(op) => Ok(Event::Call {
-            client: client as u32,
-            replica: replica as u8,
-            reading,
-            op,
-        }),
+    let op = called_op::<S>(alloc, op)?;
+    Ok(Event::Call {
+        client: client as u32,
+        replica: replica as u8,
+        reading,
+        op,
+    })
+}
+
+// The operation that is written so, if its kind has rules.
+fn called_op<S: Service>(alloc: Global, text: &[u8]) -> Result<S::Op, EventFault>
+    ensures called { IfOk result (λ op. is_called S.meaning op ≡ true) }
+    ensures text { IfOk result (λ op. S.meaning.text op ≡ text.now) }
+    ensures err { IfErr result (IsBecause (λ cause. (cause ≡ Cause.Op) × IsNoCalled S.meaning text.now)) }
+{
+    match S::read_op(alloc, text) {
+        Ok(op) => match S::kind(&op) {
+            Kind::Query | Kind::Causal => Ok(op),
+            Kind::Forced | Kind::Immediate => Err(EventFault::Bad(Cause::Op)),
+        },
         Err(OpFault::NotAnOp) => Err(EventFault::Bad(Cause::Op)),
         Err(OpFault::NoMemory) => Err(EventFault::NoMemory),
     }

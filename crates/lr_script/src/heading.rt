@@ -14,6 +14,8 @@ use lr_base::{Config, read_number};
 #[derive(Clone, Copy, Debug, PartialEq, Eq)]
 pub enum Name {
     Tally,
+    Mail,
+    Claims,
 }
 
 /// What a script's first line says.
@@ -47,6 +49,12 @@ fn service_of(field: &[u8]) -> Option<Name>
 {
     if field == b"tally".as_slice() {
         return Some(Name::Tally);
+    }
+    if field == b"mail".as_slice() {
+        return Some(Name::Mail);
+    }
+    if field == b"claims".as_slice() {
+        return Some(Name::Claims);
     }
     None
 }

@@ -5,7 +5,7 @@ ghost use Rattle.lr_base.specs.declared.events.Event.{Event};
 ghost use Rattle.lr_script.specs.declared.heading.Header.{Header};
 ghost use Rattle.lr_script.specs.declared.refusals.Cause.{Cause};
 ghost use Rattle.lr_script.specs.Faults.{IsBadHead, IsFaultAt, IsBadLine, IsHeadFault, IsLineFault, IsRefused, IsScriptFault};
-ghost use Rattle.lr_script.specs.Script.{Fits, IsSetUp, IsScript, HasHeader, line_of, events_text};
+ghost use Rattle.lr_script.specs.Script.{Fits, IsNamed, IsSetUp, IsScript, HasHeader, line_of, events_text};
 ghost use Rattle.lr_script.specs.Texts.{event_text, header_text};
 
 use crate::event_lines::{EventFault, read_event};
@@ -36,11 +36,12 @@ pub fn read_header(bytes: &[u8]) -> Result<Header, ScriptFault>
     Ok(header)
 }
 
-/// The events of a script, in the order of their lines.
+/// The events of a script, in the order of their lines. It is asked where a header that reads names the service `S`.
 pub fn read_script<S: Service>(
     alloc: Global,
     bytes: &[u8],
 ) -> Result<Rows<Event<S::Op>>, ScriptFault>
+    requires { IsNamed S.NUMBER bytes.now }
     ensures ok { IfOk result (λ events. (header : Header) × IsScript S.meaning header events bytes.now) }
     ensures long { (result ≡ Err (ScriptFault.Line 0 Cause.TooLong)) ↔ (8388608 < length bytes.now) }
     ensures same { (header : Header) → HasHeader header bytes.now → IfOk result (λ events. IsScript S.meaning header events bytes.now) }

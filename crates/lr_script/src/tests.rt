@@ -1,6 +1,6 @@
 //! Scripts that are read and printed again, and bytes that are none.
 use crate::{Cause, ScriptFault, print_event, read_header, read_script};
-use lr_base::svc_tally::{Tally, TallyOp};
+use svc_tally::{Tally, TallyOp};
 use lr_base::{Event, NoMemory, Rows, Text};
 use std::alloc::Global;
 use std::process::Abort;

@@ -2,7 +2,7 @@
 ghost use Rattle.std.specs.Prelude.{ℕ, List, [], ◌∷◌, ◌≡◌, ◌+◌, ◌≤◌, ◌≢◌, ◌++◌, OnOk, OnErr, length};
 ghost use Rattle.std.specs.List.{All};
 ghost use Rattle.lr_base.specs.Kinds.{IsPlain};
-ghost use Rattle.lr_base.specs.Tally.{tally};
+ghost use Rattle.svc_tally.specs.Tally.{tally};
 ghost use Rattle.lr_base.specs.declared.events.Step.{Step};
 ghost use Rattle.lr_outside.specs.Faults.{Rose};
 ghost use Rattle.lr_report.specs.Printed.{step_text};
@@ -13,7 +13,7 @@ ghost use Rattle.lr_sim.specs.Headline.{HasBegun, HasPrinted};
 ghost use Rattle.lr_sim.specs.Moved.{HasMoved};
 
 use lr_base::lr_service::Service;
-use lr_base::svc_tally::Tally;
+use svc_tally::Tally;
 use lr_base::{Event, NoMemory, Text};
 use lr_outside::{Failed, ReadEnd, Sink, Source, read_up_to, write_whole};
 use lr_report::{render_header, render_step};

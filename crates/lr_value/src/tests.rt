@@ -6,7 +6,7 @@ ghost use Rattle.lr_base.specs.Rules.{same_cid};
 
 use crate::Value;
 use lr_base::lr_service::{Kind, Operation, Service};
-use lr_base::svc_tally::{Tally, TallyOp};
+use svc_tally::{Tally, TallyOp};
 use lr_base::{Cid, Executed, Known, LogUpdate, NoMemory, Spot, Stamp, Text};
 use std::alloc::Global;
 use std::process::Abort;

@@ -1,7 +1,7 @@
 //! A world, with a history worked out by hand.
 use crate::World;
 use lr_base::lr_service::Service;
-use lr_base::svc_tally::{Tally, TallyOp};
+use svc_tally::{Tally, TallyOp};
 use lr_base::{Config, Event};
 use std::alloc::Global;
 use std::test::Fail;

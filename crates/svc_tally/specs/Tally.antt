@@ -1,19 +1,20 @@
 -- The tally: counters by name, to which operations add modulo 2^64.
 use Rattle.std.specs.Prelude.{ℕ, ◌+◌, ◌%◌, ◌^◌, Bool, ◌&&◌, nat_lt, List, [], ◌++◌, unwrap_or, codes}
-use Rattle.std.specs.Ordering.{nat_cmp}
-use Rattle.std.specs.Cmp.Lexicographic.{slice_cmp}
 use Rattle.std.specs.Fmt.{decimal}
 use Rattle.std.specs.FinMap as map
 use Rattle.lr_base.specs.declared.lr_service.Kind.{Kind}
 use Rattle.lr_base.specs.declared.lr_service.Kind.TheVariants.{Query, Causal}
-use Rattle.lr_base.specs.declared.svc_tally.op.TallyOp.{TallyOp}
-use Rattle.lr_base.specs.declared.svc_tally.op.TallyOp.TheVariants.{Add, Read}
-use Rattle.lr_base.specs.Word.{is_word}
+use Rattle.svc_tally.specs.declared.op.TallyOp.{TallyOp}
+use Rattle.svc_tally.specs.declared.op.TallyOp.TheVariants.{Add, Read}
+use Rattle.lr_words.specs.Word.{is_word}
 use Rattle.lr_base.specs.Meaning.{Meaning}
+use Rattle.lr_words.specs.Formats.{number_format}
+use Rattle.lr_words.specs.Parts.{decoded_in}
+use Rattle.lr_words.specs.Tables.{Format, Table, table_of}
 
 -- a counter for each name that was added to
 abbrev pub Counts : Type 0
-Counts = map.FinMap (slice_cmp nat_cmp) ℕ
+Counts = Table ℕ
 
 -- the counter of this name, or 0 where there is none
 abbrev pub count_of : Counts → List ℕ → ℕ
@@ -44,6 +45,10 @@ abbrev pub tally_text : TallyOp → List ℕ
 tally_text (Add name amount) = codes "add " ++ (name ++ (codes " " ++ decimal amount))
 tally_text (Read name) = codes "read " ++ name
 
+-- how counters stand in bytes: their count, and then each name with its counter in 8 bytes, by name
+abbrev pub tally_format : Format Counts
+tally_format = table_of number_format
+
 -- what the tally's operations mean
 abbrev pub tally : Meaning Counts TallyOp
 tally = record {
@@ -53,4 +58,7 @@ tally = record {
   read = tally_read;
   is_op = tally_is_op;
   text = tally_text;
+  is_value = tally_format.is_value;
+  spelling = tally_format.written;
+  decoded = decoded_in tally_format;
 }

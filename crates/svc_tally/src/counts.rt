@@ -1,13 +1,13 @@
 //! The tally's counters.
 ghost use Rattle.std.specs.Prelude.{◌≡◌, ◌+◌, ◌%◌, ◌^◌, OnOk, OnErr};
 ghost use Rattle.std.specs.FinMap as map;
-ghost use Rattle.lr_base.specs.Tally.{count_of};
+ghost use Rattle.svc_tally.specs.Tally.{count_of};
 
-use crate::lr_service::{Kind, OpFault, Service};
-use crate::rows::{NoMemory, Rows, Text};
-use crate::svc_tally::op::TallyOp;
-use crate::svc_tally::texts::{op_of, put_number, put_op};
-use crate::word::Word;
+use lr_base::lr_service::{Kind, OpFault, Service};
+use lr_base::{NoMemory, Rows, Text};
+use crate::op::TallyOp;
+use crate::texts::{op_of, put_number, put_op};
+use lr_words::Word;
 use std::alloc::Global;
 use std::collections::BTreeMap;
 use std::marker::Model;
@@ -55,8 +55,8 @@ impl Tally {
 }
 
 impl Service for Tally {
-    ghost use Rattle.lr_base.specs.Tally.{tally};
-    ghost use Rattle.lr_base.specs.TallyLaw.{tally_lawful};
+    ghost use Rattle.svc_tally.specs.Tally.{tally};
+    ghost use Rattle.svc_tally.specs.TallyLaw.{tally_lawful};
 
     type Op = TallyOp;
 

@@ -1,5 +1,5 @@
 //! The tally's operations, and how they are written.
-use crate::word::Word;
+use lr_words::Word;
 
 /// An operation of the tally.
 #[derive(Drop)]

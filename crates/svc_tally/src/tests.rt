@@ -1,7 +1,7 @@
 //! Texts that are and are not operations, and what a few operations in a row answer.
-use crate::lr_service::{Kind, OpFault, Operation, Service};
-use crate::rows::{Rows, Text};
-use crate::svc_tally::Tally;
+use lr_base::lr_service::{Kind, OpFault, Operation, Service};
+use lr_base::{Rows, Text};
+use crate::Tally;
 use std::alloc::Global;
 use std::test::Fail;
 

@@ -1,15 +1,15 @@
 //! How the tally's operations are written.
 ghost use Rattle.std.specs.Prelude.{◌≡◌, ◌≢◌, ◌<◌, ◌^◌, ℕ, true, List, ◌++◌, IfSome, IsNone, OnOk, codes};
 ghost use Rattle.std.specs.Fmt.{decimal};
-ghost use Rattle.lr_base.specs.Word.{is_word};
-ghost use Rattle.lr_base.specs.declared.svc_tally.op.TallyOp.{TallyOp};
-ghost use Rattle.lr_base.specs.Tally.{tally_kind, tally_is_op, tally_text};
+ghost use Rattle.lr_words.specs.Word.{is_word};
+ghost use Rattle.svc_tally.specs.declared.op.TallyOp.{TallyOp};
+ghost use Rattle.svc_tally.specs.Tally.{tally_kind, tally_is_op, tally_text};
 
-use crate::lr_service::Operation;
-use crate::numbers::read_number;
-use crate::rows::{NoMemory, Text};
-use crate::svc_tally::op::TallyOp;
-use crate::word::Word;
+use lr_base::lr_service::Operation;
+use lr_base::read_number;
+use lr_base::{NoMemory, Text};
+use crate::op::TallyOp;
+use lr_words::Word;
 use itoa::Buffer;
 
 impl Operation for TallyOp {

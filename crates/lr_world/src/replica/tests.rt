@@ -5,7 +5,7 @@ ghost use Rattle.lr_world.specs.Shapes.{IsShaped, is_actor};
 use crate::acts::Acts;
 use crate::replica::Replica;
 use lr_base::lr_service::{Kind, Operation, Service};
-use lr_base::svc_tally::{Tally, TallyOp};
+use svc_tally::{Tally, TallyOp};
 use lr_base::{Act, Actor, Call, Cid, Config, Message, NoMemory, Outcome, Stamp};
 use std::alloc::Global;
 use std::process::Abort;

@@ -1,5 +1,5 @@
 use Rattle.std.proofs.Common.{subst, sym}
-use Rattle.lr_base.specs.Tally.{tally}
+use Rattle.svc_tally.specs.Tally.{tally}
 use Rattle.lr_sim.specs.Ends.{HasRead}
 use Rattle.lr_sim.proofs.Ending.{complete-from}
 use Rattle.lr_sim.proofs.command.sim_command.Goals as goal

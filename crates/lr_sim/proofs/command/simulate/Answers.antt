@@ -1,4 +1,4 @@
-use Rattle.lr_base.specs.Tally.{tally}
+use Rattle.svc_tally.specs.Tally.{tally}
 use Rattle.lr_sim.proofs.Ending.{head-means}
 use Rattle.lr_sim.proofs.command.simulate.Goals as goal
 

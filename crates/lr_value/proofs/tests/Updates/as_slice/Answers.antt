@@ -1,5 +1,5 @@
 use Rattle.std.proofs.Common.{refl}
-use Rattle.lr_base.specs.Tally.{tally_kind}
+use Rattle.svc_tally.specs.Tally.{tally_kind}
 use Rattle.lr_value.proofs.Facts.{AllLogged-along}
 use Rattle.lr_value.proofs.tests.Updates.as_slice.Goals as goal
 

@@ -1,5 +1,5 @@
 use Rattle.std.specs.Prelude.{is_ok}
-use Rattle.lr_base.specs.Tally.{tally_kind}
+use Rattle.svc_tally.specs.Tally.{tally_kind}
 use Rattle.lr_value.proofs.Facts.{AllLogged-pushed}
 use Rattle.lr_value.proofs.tests.Updates.push.Goals as goal
 

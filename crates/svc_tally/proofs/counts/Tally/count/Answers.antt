@@ -1,6 +1,6 @@
 use Rattle.std.proofs.Common.{ap, sym, ◌∙◌}
 use Rattle.std.specs.Prelude.{unwrap_or}
-use Rattle.lr_base.specs.Tally.{count_of}
+use Rattle.svc_tally.specs.Tally.{count_of}
 use Rattle.lr_base.proofs.TallyLemmas.{get-tree}
 use Rattle.lr_base.proofs.svc_tally.counts.Tally.count.Goals as goal
 
