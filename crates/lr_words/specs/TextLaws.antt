@@ -1,16 +1,16 @@
 -- What operations' texts and answers are made of is printable and short.
-use Rattle.std.proofs.Common.{◌≡◌, ◌<◌, ◌≤◌, ◌+◌, ◌/◌, ◌%◌, ◌^◌, ◌==◌, ℕ, zero, suc, Bool, true, false, ◌&&◌, nat_le, nat_lt, cond, List, [], ◌∷◌, ◌++◌, length, refl, sym, ◌∙◌, ap, arith, le-leb, leb-true}
+use Rattle.std.proofs.Common.{◌≡◌, ◌≢◌, ◌<◌, ◌≤◌, ◌+◌, ◌/◌, ◌%◌, ◌^◌, ◌==◌, ℕ, zero, suc, Bool, true, false, ◌&&◌, nat_le, nat_lt, cond, List, [], ◌∷◌, ◌++◌, get_or, length, length-append, refl, sym, ◌∙◌, ap, arith, le-leb, leb-true}
 use Rattle.std.specs.Prelude.{flat_map}
 use Rattle.std.specs.Fmt.{decimal, digits, digits_onto, digit_glyph}
 use Rattle.std.specs.List.{list_all}
 use Rattle.std.proofs.Math.Nat.{mod-lt}
-use Rattle.std.proofs.lemmas.Bool.{and_parts, ltb-true, lt-ltb}
+use Rattle.std.proofs.lemmas.Bool.{and_parts, eq-eqb, lt-ltb}
 use Rattle.std.proofs.lemmas.Fmt.{length-decimal-le}
 use Rattle.std.proofs.lemmas.List.Folds.{list_all-append}
 use Rattle.lr_base.specs.Meaning.{is_printable}
 use Rattle.lr_words.specs.Formats.{words_text}
 use Rattle.lr_words.specs.Word.{is_word, is_word_byte}
-use Rattle.lr_words.specs.WordTexts.{is_word-parts}
+use Rattle.lr_words.specs.WordTexts.{is_word-parts, same-front, word-no_space}
 
 -- digits are printable
 glyph-printable : (n : ℕ) (acc : List ℕ) → is_printable acc ≡ true → is_printable (digit_glyph false (n % 10) ∷ acc) ≡ true
@@ -74,3 +74,36 @@ word-short word is = (is_word-parts word is).1
 -- a number's text has at most 20 bytes
 pub decimal-short : (n : ℕ) → n < 2 ^ 64 → length (decimal n) ≤ 20
 decimal-short n fits = length-decimal-le 20 n (omega arith) (omega (arith, fits)) fits
+
+-- words, each behind a space, are printable
+each-printable : (words : List (List ℕ)) → list_all is_word words ≡ true → is_printable (flat_map (λ word. 32 ∷ word) words) ≡ true
+each-printable [] all = refl
+each-printable (word ∷ words) all =
+    let parts = and_parts (is_word word) (list_all is_word words) all in
+    append-printable (32 ∷ word) (flat_map (λ word. 32 ∷ word) words) (word-printable word parts.0) (each-printable words parts.1)
+
+-- words in an answer are printable
+pub words_text-printable : (words : List (List ℕ)) → list_all is_word words ≡ true → is_printable (words_text words) ≡ true
+words_text-printable words all = append-printable (decimal (length words)) (flat_map (λ word. 32 ∷ word) words) (decimal-printable (length words)) (each-printable words all)
+
+-- two words with a space between them are told apart
+pub two-words : (m a n b : List ℕ) → (is_word m && is_word a) ≡ true → (is_word n && is_word b) ≡ true → m ++ 32 ∷ a ≡ n ++ 32 ∷ b → (m ≡ n) × (a ≡ b)
+two-words m a n b first second same = same-front m n a b (word-no_space m (and_parts (is_word m) (is_word a) first).0) (word-no_space n (and_parts (is_word n) (is_word b) second).0) same
+
+-- they are short
+pub two-short : (a b : List ℕ) → (is_word a && is_word b) ≡ true → length (a ++ 32 ∷ b) ≤ 33
+two-short a b is =
+    let parts = and_parts (is_word a) (is_word b) is in
+    omega (arith, length-append a (32 ∷ b), word-short a parts.0, word-short b parts.1)
+
+-- and printable
+pub two-printable : (a b : List ℕ) → (is_word a && is_word b) ≡ true → is_printable (a ++ 32 ∷ b) ≡ true
+two-printable a b is =
+    let parts = and_parts (is_word a) (is_word b) is in
+    append-printable a (32 ∷ b) (word-printable a parts.0) (word-printable b parts.1)
+
+-- texts that differ at a byte aren't one
+pub apart-at : (a b : List ℕ) (place : ℕ) → (get_or a place 0 == get_or b place 0) ≡ false → a ≢ b
+apart-at a b place differ = λ same.
+    let no : false ≡ true = sym differ ∙ eq-eqb (get_or a place 0) (get_or b place 0) (ap (λ text. get_or text place 0) same) in
+    cc

@@ -1,0 +1,6 @@
+//! Mail: a service of users with numbers, and boxes of words.
+#![tactic(auto)]
+
+mod op;
+
+pub use op::MailOp;
