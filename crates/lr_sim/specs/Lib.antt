@@ -1,3 +1,4 @@
 pub mod Headline
 pub mod Moved
 pub mod Ends
+pub mod Services

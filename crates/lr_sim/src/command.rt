@@ -1,19 +1,16 @@
 //! The command `sim`: reads a script to its end, runs it, and writes its history.
 ghost use Rattle.std.specs.Prelude.{ℕ, List, [], ◌∷◌, ◌≡◌, ◌+◌, ◌≤◌, ◌≢◌, ◌++◌, OnOk, OnErr, length};
 ghost use Rattle.std.specs.List.{All};
-ghost use Rattle.lr_base.specs.Kinds.{IsPlain};
-ghost use Rattle.svc_tally.specs.Tally.{tally};
 ghost use Rattle.lr_base.specs.declared.events.Step.{Step};
 ghost use Rattle.lr_outside.specs.Faults.{Rose};
 ghost use Rattle.lr_report.specs.Printed.{step_text};
-ghost use Rattle.lr_script.specs.Script.{Fits, HasHeader, IsSetUp};
+ghost use Rattle.lr_script.specs.Script.{Fits, HasHeader, IsNamed, IsSetUp};
 ghost use Rattle.lr_script.specs.declared.refusals.Cause.{Cause};
-ghost use Rattle.lr_sim.specs.Ends.{IsComplete, IsFault, Means, SimEnded, SimMeans};
+ghost use Rattle.lr_sim.specs.Ends.{IsComplete, IsFault, Means, MeansOf, SimEnded, SimMeans};
 ghost use Rattle.lr_sim.specs.Headline.{HasBegun, HasPrinted};
 ghost use Rattle.lr_sim.specs.Moved.{HasMoved};
 
 use lr_base::lr_service::Service;
-use svc_tally::Tally;
 use lr_base::{Event, NoMemory, Text};
 use lr_outside::{Failed, ReadEnd, Sink, Source, read_up_to, write_whole};
 use lr_report::{render_header, render_step};
@@ -22,6 +19,9 @@ use lr_script::{
 };
 use lr_world::World;
 use std::alloc::Global;
+use svc_claims::Claims;
+use svc_mail::Mail;
+use svc_tally::Tally;
 
 // One byte more than a script may have.
 const MOST_INPUT: usize = 8_388_609;
@@ -45,9 +45,9 @@ pub enum SimEnd {
 
 /// Reads a script to its end, runs it, and writes its history.
 pub fn sim_command<R: Source, W: Sink>(alloc: Global, input: &mut R, out: &mut W) -> SimEnd
-    ensures meant { SimMeans tally (R.left input.old) (R.left input.new) (W.held out.old) (W.held out.new) result }
+    ensures meant { SimMeans (R.left input.old) (R.left input.new) (W.held out.old) (W.held out.new) result }
     ensures ended { SimEnded (R.faults input.old) (R.faults input.new) (W.faults out.old) (W.faults out.new) out.old out.new result }
-    ensures complete { ¬ (Rose (R.faults input.old) (R.faults input.new)) → ¬ (Rose (W.faults out.old) (W.faults out.new)) → IsComplete tally (R.left input.old) (R.left input.new) result }
+    ensures complete { ¬ (Rose (R.faults input.old) (R.faults input.new)) → ¬ (Rose (W.faults out.old) (W.faults out.new)) → IsComplete (R.left input.old) (R.left input.new) result }
 {
     let bytes = match read_up_to(alloc, input, MOST_INPUT) {
         Ok(bytes) => bytes,
@@ -59,16 +59,20 @@ pub fn sim_command<R: Source, W: Sink>(alloc: Global, input: &mut R, out: &mut W
 
 // Runs the script that the bytes are.
 fn simulate<W: Sink>(alloc: Global, bytes: &[u8], out: &mut W) -> SimEnd
-    ensures meant { Means tally bytes.now (W.held out.old) (W.held out.new) result }
+    ensures meant { Means bytes.now (W.held out.old) (W.held out.new) result }
     ensures read { result ≢ SimEnd.ReadFault }
     ensures script { (line : ℕ) (cause : Cause) → result ≡ SimEnd.Script line cause → out.new ≡ out.old }
     ensures write { result ≡ SimEnd.WriteFault → Rose (W.faults out.old) (W.faults out.new) }
     ensures later { W.faults out.old ≤ W.faults out.new }
 {
     what_is_refused_means_nothing::<Tally>();
+    what_is_refused_means_nothing::<Mail>();
+    what_is_refused_means_nothing::<Claims>();
     match read_header(bytes) {
         Ok(header) => match header.service {
             Name::Tally => simulate_script::<Tally, W>(alloc, &header, bytes, out),
+            Name::Mail => simulate_script::<Mail, W>(alloc, &header, bytes, out),
+            Name::Claims => simulate_script::<Claims, W>(alloc, &header, bytes, out),
         },
         Err(fault) => refused(fault),
     }
@@ -91,8 +95,8 @@ fn simulate_script<S: Service, W: Sink>(
     out: &mut W,
 ) -> SimEnd
     requires header { HasHeader header.now bytes.now }
-    requires plain { (op : S.Op) → IsPlain (S.meaning.kind op) }
-    ensures meant { Means S.meaning bytes.now (W.held out.old) (W.held out.new) result }
+    requires named { IsNamed S.NUMBER bytes.now }
+    ensures meant { MeansOf S.meaning header.now bytes.now (W.held out.old) (W.held out.new) result }
     ensures read { result ≢ SimEnd.ReadFault }
     ensures script { (line : ℕ) (cause : Cause) → result ≡ SimEnd.Script line cause → out.new ≡ out.old }
     ensures write { result ≡ SimEnd.WriteFault → Rose (W.faults out.old) (W.faults out.new) }
@@ -147,7 +151,6 @@ fn write_history<S: Service, W: Sink>(
 ) -> Result<(), RunFault>
     requires set_up { IsSetUp header.now.config }
     requires fit { All (Fits S.meaning header.now.config) events.now }
-    requires plain { (op : S.Op) → IsPlain (S.meaning.kind op) }
     ensures whole { OnOk result (HasPrinted S.meaning header.now events.now (W.held out.old) (W.held out.new) []) }
     ensures part { HasBegun S.meaning header.now events.now (W.held out.old) (W.held out.new) }
     ensures write { result ≡ Err RunFault.Write → Rose (W.faults out.old) (W.faults out.new) }

@@ -9,7 +9,7 @@ use Rattle.lr_base.specs.Kinds.{IsUpdate}
 use Rattle.lr_base.specs.Meaning.{Lawful, is_printable}
 use Rattle.lr_words.specs.Changes.{changes-commute}
 use Rattle.lr_words.specs.Formats.{number_format}
-use Rattle.lr_words.specs.Parts.{spelled-in, one_spelling-in}
+use Rattle.lr_words.specs.Parts.{IsExactFormat, spelled-in, one_spelling-in}
 use Rattle.lr_words.specs.TableValues.{table-empty, table-insert}
 use Rattle.lr_words.specs.TextLaws.{append-printable, decimal-printable, decimal-short, word-printable, word-short}
 use Rattle.lr_words.specs.Word.{is_word}
@@ -88,8 +88,8 @@ stays-of v (Add name amount) value is =
 stays-of v (Read name) value is = value
 
 -- additions commute, each operation has one short text, and counters one spelling
-pub tally_lawful : Lawful tally tally_kind
-tally_lawful = record {
+pub tally_lawful : IsExactFormat tally_format → Lawful tally tally_kind
+tally_lawful exact = record {
   commute = λ v a b first second free. commutes v a b first second;
   kinds = λ op. refl;
   one_text = one_text-of;

@@ -1,10 +1,6 @@
-//! The tally: a service of counters by name, to which operations add modulo 2^64.
-mod counts;
+//! The tally.
+#![tactic(auto)]
+
 mod op;
-mod texts;
 
-pub use counts::Tally;
 pub use op::TallyOp;
-
-#[cfg(test)]
-mod tests;

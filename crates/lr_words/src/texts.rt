@@ -1,0 +1,45 @@
+//! What the texts of operations are made of.
+ghost use Rattle.std.specs.Prelude.{◌≡◌, ◌≢◌, true, ◌&&◌, List, ℕ, ◌++◌, IfSome, IsNone, OnOk, codes};
+ghost use Rattle.std.specs.Fmt.{decimal};
+ghost use Rattle.std.specs.Option.{MatchOption};
+ghost use Rattle.lr_words.specs.Word.{is_word};
+
+use crate::word::Word;
+use itoa::Buffer;
+use lr_base::{NoMemory, Text};
+
+/// What stands behind the verb that the text begins with.
+pub fn behind<'a>(text: &'a [u8], verb: &[u8]) -> Option<&'a [u8]>
+    ensures { MatchOption result ((rest : List ℕ) → text.now ≢ verb.now ++ rest) (λ rest. text.now ≡ verb.now ++ rest.now) }
+{
+    text.strip_prefix(verb)
+}
+
+/// Two words with a space between them.
+pub fn read_two_words(text: &[u8]) -> Option<(Word, Word)>
+    ensures written { IfSome result (λ words. words.0 ++ (codes " " ++ words.1) ≡ text.now) }
+    ensures real { IfSome result (λ words. (is_word words.0 && is_word words.1) ≡ true) }
+    ensures none { IsNone result → (first second : List ℕ) → (is_word first && is_word second) ≡ true
+        → first ++ (codes " " ++ second) ≢ text.now }
+{
+    let (first, rest) = Word::read_front(text)?;
+    let second = Word::read(rest)?;
+    Some((first, second))
+}
+
+/// Adds two words with a space between them behind `out`.
+pub fn put_two_words(first: &Word, second: &Word, out: &mut Text) -> Result<(), NoMemory>
+    ensures { OnOk result (out.new ≡ out.old ++ (first.now ++ (codes " " ++ second.now))) }
+{
+    out.extend(first.as_slice())?;
+    out.extend(b" ")?;
+    out.extend(second.as_slice())
+}
+
+/// Adds the number in decimal behind `out`.
+pub fn put_decimal(number: u64, out: &mut Text) -> Result<(), NoMemory>
+    ensures { OnOk result (out.new ≡ out.old ++ decimal number) }
+{
+    let mut buffer = Buffer::new();
+    out.extend(buffer.format(number).as_bytes())
+}
