@@ -3,5 +3,10 @@
 
 mod op;
 mod texts;
+mod value;
 
 pub use op::MailOp;
+pub use value::Mail;
+
+#[cfg(test)]
+mod tests;
