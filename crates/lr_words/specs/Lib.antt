@@ -1,4 +1,5 @@
 pub mod Formats
+pub mod Lasts
 pub mod TableLaws
 pub mod Tables
 pub mod Word
