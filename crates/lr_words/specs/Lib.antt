@@ -1,6 +1,10 @@
 pub mod Changes
 pub mod Formats
+<<<<<<< HEAD
 pub mod Parts
+=======
+pub mod Lasts
+>>>>>>> words
 pub mod TableLaws
 pub mod Tables
 pub mod TableValues
