@@ -1,10 +1,7 @@
 pub mod Changes
 pub mod Formats
-<<<<<<< HEAD
-pub mod Parts
-=======
 pub mod Lasts
->>>>>>> words
+pub mod Parts
 pub mod TableLaws
 pub mod Tables
 pub mod TableValues

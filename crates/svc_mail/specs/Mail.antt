@@ -1,5 +1,6 @@
 -- Mail: users with numbers, and boxes of words.
-use Rattle.std.specs.Prelude.{ℕ, ◌+◌, ◌%◌, ◌^◌, Bool, ◌&&◌, List, [], ◌++◌, Option, Some, None, codes}
+use Rattle.std.specs.Prelude.{ℕ, ◌+◌, ◌%◌, ◌^◌, Bool, ◌&&◌, List, [], ◌++◌, Option, Some, None, codes, refl}
+use Rattle.std.specs.Coded.{Coded, code_by, coded×, coded_list, coded_ℕ}
 use Rattle.std.specs.Fmt.{decimal}
 use Rattle.std.specs.FinMap as map
 use Rattle.lr_base.specs.declared.lr_service.Kind.{Kind}
@@ -74,6 +75,14 @@ parts_of v = (v.last, (v.users, v.boxes))
 -- the value of a number and two tables
 abbrev pub of_parts : ℕ × (Table ℕ × Table (List (List ℕ))) → MailValue
 of_parts parts = record { last = parts.0; users = parts.1.0; boxes = parts.1.1 }
+
+-- the proofs' code of a word
+abbrev word_code : Coded (List ℕ)
+word_code = coded_list coded_ℕ
+
+-- the proofs' code of a value, by which they tell it from others
+abbrev pub mail_code : Coded MailValue
+mail_code = code_by (ℕ × (Table ℕ × Table (List (List ℕ)))) (coded× coded_ℕ (coded× (map.code word_code coded_ℕ) (map.code word_code (coded_list word_code)))) parts_of of_parts (λ v. refl)
 
 -- a value stands in bytes as its last number, its users and then its boxes
 abbrev pub mail_format : Format MailValue

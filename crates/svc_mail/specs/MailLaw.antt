@@ -8,7 +8,7 @@ use Rattle.lr_base.specs.Kinds.{IsUpdate, are_ordered}
 use Rattle.lr_base.specs.Meaning.{Lawful, is_printable}
 use Rattle.lr_words.specs.Formats.{number_format, words_format, words_of, words_text, with_word}
 use Rattle.lr_words.specs.Parts.{IsExactFormat, both, both-exact, one_spelling-in, renamed-exact, spelled-in}
-use Rattle.lr_words.specs.TableLaws.{number_format-exact}
+use Rattle.lr_words.specs.TableLaws.{number_format-exact, table-exact, words-exact}
 use Rattle.lr_words.specs.Tables.{Table, is_table, table_of}
 use Rattle.lr_words.specs.TableValues.{table-empty, table-insert, table-remove, table-with_word, with_word-commute, words_of-parts}
 use Rattle.lr_words.specs.TextLaws.{apart-at, append-printable, decimal-printable, two-printable, two-short, two-words, word-printable, word-short, words_text-printable}
@@ -134,14 +134,15 @@ printable_answer-of v (Read user) value =
     append-printable (number_text (map.get v.users user)) (32 ∷ words_text (words_of v.boxes user)) (number-printable (map.get v.users user)) (words_text-printable (words_of v.boxes user) words.0)
 
 -- values are spelled exactly, since their parts are
-mail-exact : IsExactFormat (table_of number_format) → IsExactFormat (table_of words_format) → IsExactFormat mail_format
-mail-exact users boxes =
+mail-exact : IsExactFormat mail_format
+mail-exact =
     renamed-exact of_parts parts_of (both number_format (both (table_of number_format) (table_of words_format))) (λ v. refl) (λ parts. refl)
-    (both-exact number_format (both (table_of number_format) (table_of words_format)) number_format-exact (both-exact (table_of number_format) (table_of words_format) users boxes))
+    (both-exact number_format (both (table_of number_format) (table_of words_format)) number_format-exact
+    (both-exact (table_of number_format) (table_of words_format) (table-exact number_format number_format-exact) (table-exact words_format words-exact)))
 
 -- what is sent commutes with what is sent and with new users, each operation has one short text, and each value one spelling
-pub mail_lawful : IsExactFormat (table_of number_format) → IsExactFormat (table_of words_format) → Lawful mail mail_kind
-mail_lawful users boxes = record {
+pub mail_lawful : Lawful mail mail_kind
+mail_lawful = record {
   commute = commutes;
   kinds = λ op. refl;
   one_text = one_text-of;
@@ -151,6 +152,6 @@ mail_lawful users boxes = record {
   start_is = value-of mail.start (record { last = refl; users = table-empty number_format; boxes = table-empty words_format });
   stays = stays-of;
   printable_answer = printable_answer-of;
-  spelled = spelled-in mail_format (mail-exact users boxes);
-  one_spelling = one_spelling-in mail_format (mail-exact users boxes);
+  spelled = spelled-in mail_format mail-exact;
+  one_spelling = one_spelling-in mail_format mail-exact;
 }

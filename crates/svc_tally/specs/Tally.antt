@@ -1,5 +1,6 @@
 -- The tally: counters by name, to which operations add modulo 2^64.
 use Rattle.std.specs.Prelude.{ℕ, ◌+◌, ◌%◌, ◌^◌, Bool, ◌&&◌, nat_lt, List, [], ◌++◌, unwrap_or, codes}
+use Rattle.std.specs.Coded.{Coded, coded_ℕ, coded_list}
 use Rattle.std.specs.Fmt.{decimal}
 use Rattle.std.specs.FinMap as map
 use Rattle.lr_base.specs.declared.lr_service.Kind.{Kind}
@@ -44,6 +45,10 @@ tally_is_op (Read name) = is_word name
 abbrev pub tally_text : TallyOp → List ℕ
 tally_text (Add name amount) = codes "add " ++ (name ++ (codes " " ++ decimal amount))
 tally_text (Read name) = codes "read " ++ name
+
+-- the proofs' code of counters, by which they tell them from others
+abbrev pub counts_code : Coded Counts
+counts_code = map.code (coded_list coded_ℕ) coded_ℕ
 
 -- how counters stand in bytes: their count, and then each name with its counter in 8 bytes, by name
 abbrev pub tally_format : Format Counts

@@ -9,7 +9,8 @@ use Rattle.lr_base.specs.Kinds.{IsUpdate}
 use Rattle.lr_base.specs.Meaning.{Lawful, is_printable}
 use Rattle.lr_words.specs.Changes.{changes-commute}
 use Rattle.lr_words.specs.Formats.{number_format}
-use Rattle.lr_words.specs.Parts.{IsExactFormat, spelled-in, one_spelling-in}
+use Rattle.lr_words.specs.Parts.{spelled-in, one_spelling-in}
+use Rattle.lr_words.specs.TableLaws.{number_format-exact, table-exact}
 use Rattle.lr_words.specs.TableValues.{table-empty, table-insert}
 use Rattle.lr_words.specs.TextLaws.{append-printable, decimal-printable, decimal-short, word-printable, word-short}
 use Rattle.lr_words.specs.Word.{is_word}
@@ -88,8 +89,8 @@ stays-of v (Add name amount) value is =
 stays-of v (Read name) value is = value
 
 -- additions commute, each operation has one short text, and counters one spelling
-pub tally_lawful : IsExactFormat tally_format → Lawful tally tally_kind
-tally_lawful exact = record {
+pub tally_lawful : Lawful tally tally_kind
+tally_lawful = record {
   commute = λ v a b first second free. commutes v a b first second;
   kinds = λ op. refl;
   one_text = one_text-of;
@@ -99,6 +100,6 @@ tally_lawful exact = record {
   start_is = table-empty number_format;
   stays = stays-of;
   printable_answer = λ v op value. printable_answer-of v op;
-  spelled = spelled-in tally_format exact;
-  one_spelling = one_spelling-in tally_format exact;
+  spelled = spelled-in tally_format (table-exact number_format number_format-exact);
+  one_spelling = one_spelling-in tally_format (table-exact number_format number_format-exact);
 }
