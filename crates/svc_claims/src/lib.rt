@@ -1,0 +1,6 @@
+//! Claims: a service of names, each with an owner, the first that claimed it, and notes.
+#![tactic(auto)]
+
+mod op;
+
+pub use op::ClaimsOp;
