@@ -1,4 +1,5 @@
 pub mod Ascending
+pub mod ByteLaws
 pub mod Bytes
 pub mod Config
 pub mod Fronts

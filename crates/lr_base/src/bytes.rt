@@ -134,10 +134,7 @@ pub fn put_count_field(count: u64, out: &mut Text) -> Result<(), NoMemory>
 }
 
 /// What whole bytes are, once their last field was read.
-pub fn decoded<A: Drop>(
-    bytes: &[u8],
-    read: Result<(A, &[u8]), FieldFault>,
-) -> Result<A, GetFault>
+pub fn decoded<A: Drop>(bytes: &[u8], read: Result<(A, &[u8]), FieldFault>) -> Result<A, GetFault>
     ensures { (reading : Reading A) → Reads reading read.entry → Decodes (whole bytes.now reading) result }
 {
     match read {

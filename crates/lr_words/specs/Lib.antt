@@ -1,6 +1,7 @@
 pub mod Changes
 pub mod Formats
 pub mod Parts
+pub mod TableLaws
 pub mod Tables
 pub mod TableValues
 pub mod TextLaws
