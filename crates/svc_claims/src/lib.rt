@@ -2,5 +2,6 @@
 #![tactic(auto)]
 
 mod op;
+mod texts;
 
 pub use op::ClaimsOp;
