@@ -40,6 +40,10 @@ pub enum GetFault {
 }
 
 impl From<NoMemory> for FieldFault {
+    ghost use Rattle.lr_base.specs.declared.bytes.FieldFault.TheVariants as fault;
+
+    ghost from_gives = { λ none given. given ≡ fault.NoMemory };
+
     fn from(_none: NoMemory) -> FieldFault {
         FieldFault::NoMemory
     }

@@ -1,5 +1,6 @@
 pub mod Changes
 pub mod Formats
+pub mod Lasts
 pub mod Parts
 pub mod TableLaws
 pub mod Tables

@@ -67,6 +67,13 @@ impl Word {
         }
     }
 
+    /// How many bytes it has.
+    pub fn size(&self) -> u8
+        ensures { result ≡ length self.now }
+    {
+        self.bytes.len() as u8
+    }
+
     /// Its bytes.
     pub fn as_slice(&self) -> &[u8]
         ensures same { result.now ≡ self.now }

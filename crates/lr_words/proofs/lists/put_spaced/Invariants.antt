@@ -1,0 +1,6 @@
+use Rattle.std.proofs.Common.{◌≡◌, ◌++◌, ◌∷◌, flat_map, take}
+use Rattle.lr_words.proofs.lists.put_spaced.Given as goal
+
+-- the words so far stand behind what was there
+abbrev pub invariant-loop-word : goal.invariant-loop-word
+invariant-loop-word l = l.out ≡ l.initial.out ++ flat_map (λ word. 32 ∷ word) (take l.word-index l.words)

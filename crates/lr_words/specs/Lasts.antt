@@ -1,0 +1,20 @@
+-- The last of a list, and rows that are read one behind the other.
+use Rattle.std.specs.Prelude.{◌≡◌, ◌-◌, List, ℕ, length, Option, Result, Ok, Err, slice_get, ⊤}
+use Rattle.std.specs.Borrow.{Bor}
+use Rattle.lr_base.specs.Bytes.{Reading, Found, Wrong}
+use Rattle.lr_base.specs.declared.bytes.FieldFault.{FieldFault}
+use Rattle.lr_base.specs.declared.bytes.FieldFault.TheVariants as fault
+
+-- the last element, if there is one
+abbrev pub last_of : {A : Type 0} → List A → Option A
+last_of xs = slice_get xs (length xs - 1)
+
+-- a call's fault is what reading comes to, unless there was no memory
+abbrev pub IsFault : {A : Type 0} → Reading A → FieldFault → Type 0
+IsFault reading (fault.Bad left what) = reading ≡ Wrong left what
+IsFault reading fault.NoMemory = ⊤
+
+-- a call's answer, whose value holds these rows, is what reading comes to, unless there was no memory
+abbrev pub ReadsRows : {A B : Type 0} → (B → List A) → Reading (List A) → Result (B × Bor (List ℕ)) FieldFault → Type 0
+ReadsRows rows reading (Ok parts) = reading ≡ Found (rows parts.0) parts.1.now
+ReadsRows rows reading (Err given) = IsFault reading given

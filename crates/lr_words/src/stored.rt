@@ -1,0 +1,98 @@
+//! What stands in a table behind each name: numbers and words, and how each stands in bytes.
+ghost use Rattle.std.specs.Prelude.{◌≡◌, ◌≤◌, ◌++◌, ◌∷◌, length, true, IfOk, OnOk};
+ghost use Rattle.lr_base.specs.Bytes.{IsExact, Reads};
+ghost use Rattle.lr_words.specs.Tables.{Format, word_text_field};
+ghost use Rattle.lr_words.specs.Formats.{number_format, word_format};
+ghost use Rattle.lr_words.specs.TableLaws.{number_format-exact, word-exact};
+
+use crate::word::Word;
+use lr_base::{BadWhat, FieldFault, NoMemory, Text, byte_field, number_field, put_number_field};
+use std::alloc::Global;
+
+/// What stands in a table behind each name.
+pub trait Stored: Sized + Drop {
+    ghost format: { Format Self };
+
+    /// A value equal to this one.
+    fn copy(&self) -> Result<Self, NoMemory>
+        ensures { IfOk result (λ copied. copied ≡ self.now) };
+
+    /// Adds its bytes behind `out`.
+    fn put(&self, out: &mut Text) -> Result<(), NoMemory>
+        ensures ok { OnOk result (out.new ≡ out.old ++ format.written self.now) }
+        ensures real { OnOk result (format.is_value self.now ≡ true) };
+
+    /// The value that the bytes begin with, and the bytes behind it.
+    fn field(alloc: Global, bytes: &[u8]) -> Result<(Self, &[u8]), FieldFault>
+        ensures { Reads (format.field bytes.now) result };
+
+    ghost exact: { IsExact format.is_value format.written format.field };
+}
+
+impl Stored for u64 {
+    ghost format = { number_format };
+
+    fn copy(&self) -> Result<u64, NoMemory> {
+        Ok(*self)
+    }
+
+    fn put(&self, out: &mut Text) -> Result<(), NoMemory> {
+        put_number_field(*self, out)
+    }
+
+    fn field(_alloc: Global, bytes: &[u8]) -> Result<(u64, &[u8]), FieldFault> {
+        number_field(bytes)
+    }
+
+    ghost exact = { number_format-exact };
+}
+
+impl Stored for Word {
+    ghost format = { word_format };
+
+    fn copy(&self) -> Result<Word, NoMemory> {
+        Ok(Word::copy(self))
+    }
+
+    fn put(&self, out: &mut Text) -> Result<(), NoMemory> {
+        out.push(self.size())?;
+        out.extend(self.as_slice())
+    }
+
+    fn field(_alloc: Global, bytes: &[u8]) -> Result<(Word, &[u8]), FieldFault> {
+        let (size, rest) = byte_field(bytes)?;
+        if size < 1 {
+            return Err(wrong(bytes, BadWhat::Range));
+        }
+        if size > 16 {
+            return Err(wrong(bytes, BadWhat::Range));
+        }
+        text_field(size, rest)
+    }
+
+    ghost exact = { word-exact };
+}
+
+// The word of this length that the bytes begin with, and the bytes behind it.
+fn text_field(size: u8, bytes: &[u8]) -> Result<(Word, &[u8]), FieldFault>
+    ensures { Reads (word_text_field size bytes.now) result }
+{
+    let size = usize::from(size);
+    if bytes.len() < size {
+        return Err(wrong(bytes, BadWhat::Short));
+    }
+    match Word::read(&bytes[..size]) {
+        Some(word) => Ok((word, &bytes[size..])),
+        None => Err(wrong(bytes, BadWhat::Value)),
+    }
+}
+
+// The fault at a field that begins here.
+pub(crate) fn wrong(bytes: &[u8], what: BadWhat) -> FieldFault
+    ensures { result ≡ FieldFault.Bad (length bytes.now) what }
+{
+    FieldFault::Bad {
+        left: bytes.len(),
+        what,
+    }
+}
