@@ -18,3 +18,8 @@ IsFault reading fault.NoMemory = ⊤
 abbrev pub ReadsRows : {A B : Type 0} → (B → List A) → Reading (List A) → Result (B × Bor (List ℕ)) FieldFault → Type 0
 ReadsRows rows reading (Ok parts) = reading ≡ Found (rows parts.0) parts.1.now
 ReadsRows rows reading (Err given) = IsFault reading given
+
+-- a call's answer, a pair and the bytes behind it, is what reading comes to, unless there was no memory
+abbrev pub ReadsEntry : {A B : Type 0} → Reading (A × B) → Result (A × B × Bor (List ℕ)) FieldFault → Type 0
+ReadsEntry reading (Ok parts) = reading ≡ Found (parts.0, parts.1) parts.2.now
+ReadsEntry reading (Err given) = IsFault reading given

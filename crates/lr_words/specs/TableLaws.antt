@@ -1,5 +1,5 @@
 -- Exact tables: words, words in order, and tables of exact values are read as they were written, and written as they were read.
-use Rattle.std.proofs.Common.{◌≡◌, ◌<◌, ◌≤◌, ◌^◌, ◌==◌, ℕ, zero, suc, Bool, true, false, cond, ◌&&◌, nat_lt, nat_le, List, [], ◌∷◌, ◌++◌, length, take, drop, refl, sym, ◌∙◌, ap, subst, arith, length-append, append_assoc}
+use Rattle.std.proofs.Common.{◌≡◌, ◌<◌, ◌^◌, ◌==◌, ℕ, Bool, true, false, cond, ◌&&◌, nat_lt, nat_le, List, [], ◌∷◌, ◌++◌, length, take, drop, refl, sym, ◌∙◌, ap, arith, length-append, append_assoc}
 use Rattle.std.specs.Prelude.{Option, Some, None, flat_map, T}
 use Rattle.std.specs.List.{list_all}
 use Rattle.std.specs.declared.cmp.Ordering.{Ordering}
@@ -10,19 +10,18 @@ use Rattle.std.specs.FinMap as map
 use Rattle.std.specs.FinMap.Entries.{is_sorted, below_all}
 use Rattle.std.proofs.Math.Nat.{mod-eq_of_lt}
 use Rattle.std.proofs.Math.Seq.{take-append_seam, drop-append_seam}
-use Rattle.std.proofs.lemmas.Bool.{and_parts, and_from, eqb-true, eqb-false, ne_eqb, ltb-true, ltb-false, lt-ltb, le-ltb, le-leb}
+use Rattle.std.proofs.lemmas.Bool.{and_parts, and_from, eqb-false, ne_eqb, ltb-true, ltb-false, lt-ltb, le-ltb, le-leb}
 use Rattle.std.proofs.lemmas.Cmp.{nat_list_cmp_total}
 use Rattle.std.proofs.lemmas.List.{take-append-drop, length-take-le}
 use Rattle.byteorder.specs.Endian.{big_bytes}
 use Rattle.byteorder.specs.Numbers.{length-bytes_high_first}
-use Rattle.lr_base.specs.Bytes.{Reading, Found, Wrong, and_then, number_field, count_field, count_bytes, times, are_bytes, IsExact}
+use Rattle.lr_base.specs.Bytes.{Reading, Found, Wrong, and_then, number_field, count_field, count_bytes, times, IsExact}
 use Rattle.lr_base.specs.ByteLaws.{are_bytes-behind, and_then-found, passed-found, failed-found, number-exact, count-exact, each_may, times-forth, times-back, length-flat_map-le}
-use Rattle.lr_base.specs.declared.bytes.BadWhat.{BadWhat}
 use Rattle.lr_base.specs.declared.bytes.BadWhat.TheVariants.{Range, Order, Value, Short}
-use Rattle.lr_words.specs.Word.{is_word, is_word_byte}
+use Rattle.lr_words.specs.Word.{is_word}
 use Rattle.lr_words.specs.WordTexts.{is_word-parts}
 use Rattle.lr_words.specs.Tables.{Table, Format, word_bytes, word_text_field, word_field, is_behind, entry_field, entry_bytes, table_field, table_bytes, is_table}
-use Rattle.lr_words.specs.Formats.{number_format, word_format, words_format, is_up_to, is_up_to_first, are_in_order, follows, next_word_field, words_field}
+use Rattle.lr_words.specs.Formats.{number_format, words_format, is_up_to, is_up_to_first, are_in_order, follows, next_word_field, words_field}
 
 -- the byte of a length stands for itself
 length-byte : (size : ℕ) → size < 256 → big_bytes 1 size ≡ size ∷ []
@@ -152,13 +151,13 @@ abbrev names : List ℕ → List ℕ → Ordering
 names = slice_cmp nat_cmp
 
 -- one name is less than another
-less : (o : Ordering) → is_lt o ≡ true → o ≡ Less
+pub less : (o : Ordering) → is_lt o ≡ true → o ≡ Less
 less Less is = refl
 less Equal is = cc
 less Greater is = cc
 
 -- a test that holds, as a fact
-fact : (b : Bool) → b ≡ true → T b
+pub fact : (b : Bool) → b ≡ true → T b
 fact true is = tt
 fact false is = cc
 

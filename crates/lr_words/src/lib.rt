@@ -1,17 +1,17 @@
 //! What services are made of: words, and tables of values by word.
 #![tactic(auto)]
 
-// mod entries;
+mod entries;
 mod laws;
 mod lists;
 mod stored;
-// mod table;
+mod table;
 mod texts;
 mod word;
 
 pub use laws::tables_are_exact;
 pub use lists::WordList;
 pub use stored::Stored;
-// pub use table::Table;
+pub use table::Table;
 pub use texts::put_decimal;
 pub use word::Word;

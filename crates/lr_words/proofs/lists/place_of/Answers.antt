@@ -1,4 +1,4 @@
-use Rattle.std.proofs.Common.{◌<◌, [], length, sym, ap, arith, ◌∙◌}
+use Rattle.std.proofs.Common.{[], length, sym, ap, arith, ◌∙◌}
 use Rattle.lr_words.specs.Formats.{is_up_to}
 use Rattle.lr_words.proofs.Rows.{insert-put_word}
 use Rattle.lr_words.proofs.lists.place_of.Goals as goal

@@ -1,4 +1,4 @@
-use Rattle.std.proofs.Common.{◌≡◌, ◌≤◌, ◌-◌, length, true}
+use Rattle.std.proofs.Common.{◌≡◌, ◌-◌, length, true}
 use Rattle.std.specs.Prelude.{None}
 use Rattle.lr_base.specs.Bytes.{times}
 use Rattle.lr_words.specs.Formats.{are_in_order, next_word_field}
