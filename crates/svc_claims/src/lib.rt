@@ -3,5 +3,10 @@
 
 mod op;
 mod texts;
+mod value;
 
 pub use op::ClaimsOp;
+pub use value::Claims;
+
+#[cfg(test)]
+mod tests;
