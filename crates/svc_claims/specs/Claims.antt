@@ -1,5 +1,6 @@
 -- Claims: names with an owner, the first that claimed them, and notes.
-use Rattle.std.specs.Prelude.{ℕ, Bool, ◌&&◌, if◌then◌else◌, List, [], ◌++◌, is_some, unwrap_or, codes}
+use Rattle.std.specs.Prelude.{ℕ, Bool, ◌&&◌, if◌then◌else◌, List, [], ◌++◌, is_some, unwrap_or, codes, refl}
+use Rattle.std.specs.Coded.{Coded, code_by, coded×, coded_list, coded_ℕ}
 use Rattle.std.specs.FinMap as map
 use Rattle.lr_base.specs.declared.lr_service.Kind.{Kind}
 use Rattle.lr_base.specs.declared.lr_service.Kind.TheVariants.{Query, Causal, Forced, Immediate}
@@ -62,6 +63,14 @@ tables_of v = (v.owners, v.notes)
 -- the value of two tables
 abbrev pub of_tables : Table (List ℕ) × Table (List (List ℕ)) → ClaimsValue
 of_tables tables = record { owners = tables.0; notes = tables.1 }
+
+-- the proofs' code of words
+abbrev word_code : Coded (List ℕ)
+word_code = coded_list coded_ℕ
+
+-- the proofs' code of a value, by which they tell it from others
+abbrev pub claims_code : Coded ClaimsValue
+claims_code = code_by (Table (List ℕ) × Table (List (List ℕ))) (coded× (map.code word_code word_code) (map.code word_code (coded_list word_code))) tables_of of_tables (λ v. refl)
 
 -- a value stands in bytes as its owners and then its notes
 abbrev pub claims_format : Format ClaimsValue

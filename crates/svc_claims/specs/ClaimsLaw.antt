@@ -10,6 +10,7 @@ use Rattle.lr_base.specs.Meaning.{Lawful, is_printable}
 use Rattle.lr_words.specs.Formats.{word_format, words_format, words_of, words_text}
 use Rattle.lr_words.specs.Parts.{IsExactFormat, both, both-exact, one_spelling-in, renamed-exact, spelled-in}
 use Rattle.lr_words.specs.Tables.{Table, is_table, table_of}
+use Rattle.lr_words.specs.TableLaws.{table-exact, word-exact, words-exact}
 use Rattle.lr_words.specs.TableValues.{table-empty, table-get, table-insert, table-remove, table-with_word, with_word-commute, words_of-parts}
 use Rattle.lr_words.specs.TextLaws.{append-printable, decimal-printable, word-printable, word-short}
 use Rattle.lr_words.specs.Word.{is_word}
@@ -164,12 +165,12 @@ printable_answer-of v (Who name) value =
     append-printable (unwrap_or (map.get v.owners name) (codes "-")) (32 ∷ words_text (words_of v.notes name)) (owner-printable v.owners name tables.0) (words_text-printable (words_of v.notes name) words.0)
 
 -- values are spelled exactly, since tables are
-claims-exact : IsExactFormat (table_of word_format) → IsExactFormat (table_of words_format) → IsExactFormat claims_format
-claims-exact owners notes = renamed-exact of_tables tables_of (both (table_of word_format) (table_of words_format)) (λ v. refl) (λ tables. refl) (both-exact (table_of word_format) (table_of words_format) owners notes)
+claims-exact : IsExactFormat claims_format
+claims-exact = renamed-exact of_tables tables_of (both (table_of word_format) (table_of words_format)) (λ v. refl) (λ tables. refl) (both-exact (table_of word_format) (table_of words_format) (table-exact word_format word-exact) (table-exact words_format words-exact))
 
 -- notes commute with notes and claims, each operation has one short text, and each value one spelling
-pub claims_lawful : IsExactFormat (table_of word_format) → IsExactFormat (table_of words_format) → Lawful claims claims_kind
-claims_lawful owners notes = record {
+pub claims_lawful : Lawful claims claims_kind
+claims_lawful = record {
   commute = commutes;
   kinds = λ op. refl;
   one_text = one_text-of;
@@ -179,6 +180,6 @@ claims_lawful owners notes = record {
   start_is = value-of claims.start (table-empty word_format) (table-empty words_format);
   stays = stays-of;
   printable_answer = printable_answer-of;
-  spelled = spelled-in claims_format (claims-exact owners notes);
-  one_spelling = one_spelling-in claims_format (claims-exact owners notes);
+  spelled = spelled-in claims_format claims-exact;
+  one_spelling = one_spelling-in claims_format claims-exact;
 }

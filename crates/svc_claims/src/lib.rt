@@ -2,5 +2,11 @@
 #![tactic(auto)]
 
 mod op;
+mod texts;
+mod value;
 
 pub use op::ClaimsOp;
+pub use value::Claims;
+
+#[cfg(test)]
+mod tests;
