@@ -1,10 +1,8 @@
 -- Claims keep the law of services.
-use Rattle.std.proofs.Common.{◌≡◌, ◌≢◌, ◌<◌, ◌≤◌, ◌^◌, ◌==◌, ℕ, Bool, true, false, cond, ◌&&◌, List, [], ◌∷◌, ◌++◌, length, get_or, refl, sym, ◌∙◌, ap, arith, length-append}
-use Rattle.std.specs.Prelude.{Option, Some, None, is_some, unwrap_or, codes, flat_map}
-use Rattle.std.specs.List.{list_all}
-use Rattle.std.specs.Fmt.{decimal}
+use Rattle.std.proofs.Common.{◌≡◌, ◌<◌, ◌≤◌, ◌^◌, ℕ, Bool, true, false, cond, ◌&&◌, List, ◌∷◌, ◌++◌, length, refl, ap, arith}
+use Rattle.std.specs.Prelude.{Option, Some, None, is_some, unwrap_or, codes}
 use Rattle.std.specs.FinMap as map
-use Rattle.std.proofs.lemmas.Bool.{and_parts, eq-eqb}
+use Rattle.std.proofs.lemmas.Bool.{and_parts}
 use Rattle.lr_base.specs.Kinds.{IsUpdate, are_ordered}
 use Rattle.lr_base.specs.Meaning.{Lawful, is_printable}
 use Rattle.lr_words.specs.Formats.{word_format, words_format, words_of, words_text}
@@ -12,9 +10,8 @@ use Rattle.lr_words.specs.Parts.{IsExactFormat, both, both-exact, one_spelling-i
 use Rattle.lr_words.specs.Tables.{Table, is_table, table_of}
 use Rattle.lr_words.specs.TableLaws.{table-exact, word-exact, words-exact}
 use Rattle.lr_words.specs.TableValues.{table-empty, table-get, table-insert, table-remove, table-with_word, with_word-commute, words_of-parts}
-use Rattle.lr_words.specs.TextLaws.{append-printable, decimal-printable, word-printable, word-short}
+use Rattle.lr_words.specs.TextLaws.{apart-at, append-printable, two-printable, two-short, two-words, word-printable, word-short, words_text-printable}
 use Rattle.lr_words.specs.Word.{is_word}
-use Rattle.lr_words.specs.WordTexts.{same-front, word-no_space}
 use Rattle.svc_claims.specs.Claims.{ClaimsValue, claims, claims_apply, claims_format, claims_is_op, claims_kind, claims_text, claimed, of_tables, tables_of}
 use Rattle.svc_claims.specs.declared.op.ClaimsOp.{ClaimsOp}
 use Rattle.svc_claims.specs.declared.op.ClaimsOp.TheVariants.{Note, Claim, Clear, Who}
@@ -32,16 +29,6 @@ commutes v (Who m) b first second free = let no : true ≡ false = first in cc
 commutes v (Note m a) (Who n) first second free = let no : true ≡ false = second in cc
 commutes v (Claim m a) (Who n) first second free = let no : true ≡ false = second in cc
 
--- two words behind a verb
-two-words : (m a n b : List ℕ) → (is_word m && is_word a) ≡ true → (is_word n && is_word b) ≡ true → m ++ 32 ∷ a ≡ n ++ 32 ∷ b → (m ≡ n) × (a ≡ b)
-two-words m a n b first second same = same-front m n a b (word-no_space m (and_parts (is_word m) (is_word a) first).0) (word-no_space n (and_parts (is_word n) (is_word b) second).0) same
-
--- texts that differ at a byte aren't one
-apart : (a b : List ℕ) (place : ℕ) → (get_or a place 0 == get_or b place 0) ≡ false → a ≢ b
-apart a b place differ = λ same.
-    let no : false ≡ true = sym differ ∙ eq-eqb (get_or a place 0) (get_or b place 0) (ap (λ text. get_or text place 0) same) in
-    cc
-
 -- operations with one text are one
 one_text-of : (a b : ClaimsOp) → claims_is_op a ≡ true → claims_is_op b ≡ true → claims_text a ≡ claims_text b → a ≡ b
 one_text-of (Note m a) (Note n b) first second same =
@@ -58,18 +45,18 @@ one_text-of (Claim m a) (Claim n b) first second same =
     cc
 one_text-of (Clear m) (Clear n) first second same = let names : m ≡ n = cc in cc
 one_text-of (Who m) (Who n) first second same = let names : m ≡ n = cc in cc
-one_text-of (Note m a) (Claim n b) first second same = absurd (apart _ _ 0 refl same)
-one_text-of (Note m a) (Clear n) first second same = absurd (apart _ _ 0 refl same)
-one_text-of (Note m a) (Who n) first second same = absurd (apart _ _ 0 refl same)
-one_text-of (Claim m a) (Note n b) first second same = absurd (apart _ _ 0 refl same)
-one_text-of (Claim m a) (Clear n) first second same = absurd (apart _ _ 2 refl same)
-one_text-of (Claim m a) (Who n) first second same = absurd (apart _ _ 0 refl same)
-one_text-of (Clear m) (Note n b) first second same = absurd (apart _ _ 0 refl same)
-one_text-of (Clear m) (Claim n b) first second same = absurd (apart _ _ 2 refl same)
-one_text-of (Clear m) (Who n) first second same = absurd (apart _ _ 0 refl same)
-one_text-of (Who m) (Note n b) first second same = absurd (apart _ _ 0 refl same)
-one_text-of (Who m) (Claim n b) first second same = absurd (apart _ _ 0 refl same)
-one_text-of (Who m) (Clear n) first second same = absurd (apart _ _ 0 refl same)
+one_text-of (Note m a) (Claim n b) first second same = absurd (apart-at _ _ 0 refl same)
+one_text-of (Note m a) (Clear n) first second same = absurd (apart-at _ _ 0 refl same)
+one_text-of (Note m a) (Who n) first second same = absurd (apart-at _ _ 0 refl same)
+one_text-of (Claim m a) (Note n b) first second same = absurd (apart-at _ _ 0 refl same)
+one_text-of (Claim m a) (Clear n) first second same = absurd (apart-at _ _ 2 refl same)
+one_text-of (Claim m a) (Who n) first second same = absurd (apart-at _ _ 0 refl same)
+one_text-of (Clear m) (Note n b) first second same = absurd (apart-at _ _ 0 refl same)
+one_text-of (Clear m) (Claim n b) first second same = absurd (apart-at _ _ 2 refl same)
+one_text-of (Clear m) (Who n) first second same = absurd (apart-at _ _ 0 refl same)
+one_text-of (Who m) (Note n b) first second same = absurd (apart-at _ _ 0 refl same)
+one_text-of (Who m) (Claim n b) first second same = absurd (apart-at _ _ 0 refl same)
+one_text-of (Who m) (Clear n) first second same = absurd (apart-at _ _ 0 refl same)
 
 -- no text is empty
 some_text-of : (op : ClaimsOp) → 1 ≤ length (claims_text op)
@@ -78,24 +65,12 @@ some_text-of (Claim name who) = omega arith
 some_text-of (Clear name) = omega arith
 some_text-of (Who name) = omega arith
 
--- two words and the space between them are short
-two-short : (a b : List ℕ) → (is_word a && is_word b) ≡ true → length (a ++ 32 ∷ b) ≤ 33
-two-short a b is =
-    let parts = and_parts (is_word a) (is_word b) is in
-    omega (arith, length-append a (32 ∷ b), word-short a parts.0, word-short b parts.1)
-
 -- a text is far below 2^16 bytes
 short_text-of : (op : ClaimsOp) → claims_is_op op ≡ true → length (claims_text op) < 2 ^ 16
 short_text-of (Note name word) is = omega (arith, two-short name word is)
 short_text-of (Claim name who) is = omega (arith, two-short name who is)
 short_text-of (Clear name) is = omega (arith, word-short name is)
 short_text-of (Who name) is = omega (arith, word-short name is)
-
--- two words and the space between them are printable
-two-printable : (a b : List ℕ) → (is_word a && is_word b) ≡ true → is_printable (a ++ 32 ∷ b) ≡ true
-two-printable a b is =
-    let parts = and_parts (is_word a) (is_word b) is in
-    append-printable a (32 ∷ b) (word-printable a parts.0) (word-printable b parts.1)
 
 -- an operation's text is printable
 printable_text-of : (op : ClaimsOp) → claims_is_op op ≡ true → is_printable (claims_text op) ≡ true
@@ -134,17 +109,6 @@ stays-of v (Clear name) value is =
     let tables = value-parts v value in
     value-of (claims_apply v (Clear name)) (table-remove word_format v.owners name tables.0) (table-remove words_format v.notes name tables.1)
 stays-of v (Who name) value is = value
-
--- words, each behind a space, are printable
-each-printable : (words : List (List ℕ)) → list_all is_word words ≡ true → is_printable (flat_map (λ word. 32 ∷ word) words) ≡ true
-each-printable [] all = refl
-each-printable (word ∷ words) all =
-    let parts = and_parts (is_word word) (list_all is_word words) all in
-    append-printable (32 ∷ word) (flat_map (λ word. 32 ∷ word) words) (word-printable word parts.0) (each-printable words parts.1)
-
--- words in an answer are printable
-words_text-printable : (words : List (List ℕ)) → list_all is_word words ≡ true → is_printable (words_text words) ≡ true
-words_text-printable words all = append-printable (decimal (length words)) (flat_map (λ word. 32 ∷ word) words) (decimal-printable (length words)) (each-printable words all)
 
 -- an owner, or a dash, is printable
 owner-printable : (owners : Table (List ℕ)) (name : List ℕ) → is_table word_format owners ≡ true → is_printable (unwrap_or (map.get owners name) (codes "-")) ≡ true

@@ -1,6 +1,5 @@
 //! How the operations of claims are written.
 ghost use Rattle.std.specs.Prelude.{◌≡◌, ◌≢◌, true, ◌&&◌, List, ℕ, ◌++◌, IfSome, IsNone, OnOk, codes};
-ghost use Rattle.std.specs.Option.{MatchOption};
 ghost use Rattle.lr_words.specs.Word.{is_word};
 ghost use Rattle.svc_claims.specs.declared.op.ClaimsOp.{ClaimsOp};
 ghost use Rattle.svc_claims.specs.Claims.{claims_kind, claims_is_op, claims_text};
@@ -8,7 +7,7 @@ ghost use Rattle.svc_claims.specs.Claims.{claims_kind, claims_is_op, claims_text
 use crate::op::ClaimsOp;
 use lr_base::lr_service::Operation;
 use lr_base::{NoMemory, Text};
-use lr_words::Word;
+use lr_words::{Word, behind, put_two_words, read_two_words};
 
 impl Operation for ClaimsOp {
     ghost kind_of = { claims_kind };
@@ -47,32 +46,13 @@ pub(crate) fn op_of(text: &[u8]) -> Option<ClaimsOp>
     who_of(behind(text, b"who ")?)
 }
 
-// What stands behind the verb that the text begins with.
-fn behind<'a>(text: &'a [u8], verb: &[u8]) -> Option<&'a [u8]>
-    ensures { MatchOption result ((rest : List ℕ) → text.now ≢ verb.now ++ rest) (λ rest. text.now ≡ verb.now ++ rest.now) }
-{
-    text.strip_prefix(verb)
-}
-
-// Two words with a space between them.
-fn two_words(text: &[u8]) -> Option<(Word, Word)>
-    ensures written { IfSome result (λ words. words.0 ++ (codes " " ++ words.1) ≡ text.now) }
-    ensures real { IfSome result (λ words. (is_word words.0 && is_word words.1) ≡ true) }
-    ensures none { IsNone result → (first second : List ℕ) → (is_word first && is_word second) ≡ true
-        → first ++ (codes " " ++ second) ≢ text.now }
-{
-    let (first, rest) = Word::read_front(text)?;
-    let second = Word::read(rest)?;
-    Some((first, second))
-}
-
 fn note_of(rest: &[u8]) -> Option<ClaimsOp>
     ensures written { IfSome result (λ op. claims_text op ≡ codes "note " ++ rest.now) }
     ensures real { IfSome result (λ op. claims_is_op op ≡ true) }
     ensures none { IsNone result → (name word : List ℕ) → (is_word name && is_word word) ≡ true
         → name ++ (codes " " ++ word) ≢ rest.now }
 {
-    let (name, word) = two_words(rest)?;
+    let (name, word) = read_two_words(rest)?;
     Some(ClaimsOp::Note { name, word })
 }
 
@@ -82,7 +62,7 @@ fn claim_of(rest: &[u8]) -> Option<ClaimsOp>
     ensures none { IsNone result → (name who : List ℕ) → (is_word name && is_word who) ≡ true
         → name ++ (codes " " ++ who) ≢ rest.now }
 {
-    let (name, who) = two_words(rest)?;
+    let (name, who) = read_two_words(rest)?;
     Some(ClaimsOp::Claim { name, who })
 }
 
@@ -111,11 +91,11 @@ pub(crate) fn put_op(op: &ClaimsOp, out: &mut Text) -> Result<(), NoMemory>
     match op {
         ClaimsOp::Note { name, word } => {
             out.extend(b"note ")?;
-            put_two(name, word, out)
+            put_two_words(name, word, out)
         }
         ClaimsOp::Claim { name, who } => {
             out.extend(b"claim ")?;
-            put_two(name, who, out)
+            put_two_words(name, who, out)
         }
         ClaimsOp::Clear { name } => {
             out.extend(b"clear ")?;
@@ -126,13 +106,4 @@ pub(crate) fn put_op(op: &ClaimsOp, out: &mut Text) -> Result<(), NoMemory>
             out.extend(name.as_slice())
         }
     }
-}
-
-// Adds two words with a space between them behind `out`.
-fn put_two(first: &Word, second: &Word, out: &mut Text) -> Result<(), NoMemory>
-    ensures { OnOk result (out.new ≡ out.old ++ (first.now ++ (codes " " ++ second.now))) }
-{
-    out.extend(first.as_slice())?;
-    out.extend(b" ")?;
-    out.extend(second.as_slice())
 }
