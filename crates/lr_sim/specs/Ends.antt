@@ -54,22 +54,22 @@ MeansOf m header bytes before now NoMemory = Appends before now [] ⊎ HasRunPar
 -- the bytes mean a header and events of the service that it names, and the legal history of these was written, whole
 pub record HasRun (bytes : List ℕ) (before now : Option (List ℕ)) : Type 0 where
   pub header : Header
-  pub run : HoldsOf (λ m. HasRunOf m header bytes before now) header.service
+  pub run : HoldsOf (λ Value Op m. HasRunOf m header bytes before now) header.service
 
 -- the same, and the front of the legal history of some first of the events was written
 pub record HasRunPart (bytes : List ℕ) (before now : Option (List ℕ)) : Type 0 where
   pub header : Header
-  pub part : HoldsOf (λ m. HasRunPartOf m header bytes before now) header.service
+  pub part : HoldsOf (λ Value Op m. HasRunPartOf m header bytes before now) header.service
 
 -- the bytes begin with this header's line, and this is the first bad line behind it, with the first cause at it
 pub record IsBadBehind (bytes : List ℕ) (line : ℕ) (cause : Cause) : Type 0 where
   pub header : Header
   pub has : HasHeader header bytes
-  pub bad : HoldsOf (λ m. IsBadAt m bytes line cause) header.service
+  pub bad : HoldsOf (λ Value Op m. IsBadAt m bytes line cause) header.service
 
 -- the bytes mean no header and events of the service that it names: this is the first bad line, with the first cause at it; too many bytes are refused for just that
 pub record IsRefusedFor (bytes : List ℕ) (line : ℕ) (cause : Cause) : Type 0 where
-  pub meaningless : (header : Header) → HoldsOf (λ m. IsNoScriptOf m header bytes) header.service
+  pub meaningless : (header : Header) → HoldsOf (λ Value Op m. IsNoScriptOf m header bytes) header.service
   pub fault : IsBadHead bytes line cause ⊎ IsBadBehind bytes line cause
   pub long : (cause ≡ TooLong) ↔ (8388608 < length bytes)
 
@@ -103,4 +103,4 @@ IsDoneFor {Value} {Op} m header bytes end = (events : List (Event Op)) → IsScr
 -- where neither count of faults rose, bytes were read, and if they mean a header and events of its service the simulation is done; or there was no memory
 pub data IsComplete (left_before left_now : Option (List ℕ)) (end : SimEnd) : Type 0 where
   no_memory : end ≡ NoMemory → IsComplete left_before left_now end
-  was_read : (bytes : List ℕ) → HasRead left_before left_now bytes → ((header : Header) → HoldsOf (λ m. IsDoneFor m header bytes end) header.service) → IsComplete left_before left_now end
+  was_read : (bytes : List ℕ) → HasRead left_before left_now bytes → ((header : Header) → HoldsOf (λ Value Op m. IsDoneFor m header bytes end) header.service) → IsComplete left_before left_now end

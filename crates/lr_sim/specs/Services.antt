@@ -7,7 +7,7 @@ use Rattle.svc_mail.specs.Mail.{mail}
 use Rattle.svc_tally.specs.Tally.{tally}
 
 -- this holds of what the service of this name means
-abbrev pub HoldsOf : ({Value Op : Type 0} → Meaning Value Op → Type 0) → Name → Type 0
-HoldsOf P Tally = P tally
-HoldsOf P Mail = P mail
-HoldsOf P Claims = P claims
+abbrev pub HoldsOf : ((Value Op : Type 0) → Meaning Value Op → Type 0) → Name → Type 0
+HoldsOf P Tally = P _ _ tally
+HoldsOf P Mail = P _ _ mail
+HoldsOf P Claims = P _ _ claims
