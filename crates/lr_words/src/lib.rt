@@ -15,3 +15,6 @@ pub use stored::Stored;
 pub use table::Table;
 pub use texts::put_decimal;
 pub use word::Word;
+
+#[cfg(test)]
+mod tests;
