@@ -124,6 +124,13 @@ fn words_table(alloc: Global) -> Result<Table<WordList>, Fail> {
     Ok(table.copy()?)
 }
 
+// Whether the table is put to these bytes, and is read of them.
+fn stands_so<V: Stored>(alloc: Global, table: &Table<V>, bytes: &[u8]) -> Result<bool, Fail> {
+    let put = bytes_of(alloc, table)?;
+    let read = again::<V>(alloc, bytes)?;
+    Ok(put.as_slice() == bytes && read.as_slice() == bytes)
+}
+
 // The text of a name's words.
 fn text_of(alloc: Global, table: &Table<WordList>, name: &str) -> Result<Text, Fail> {
     let mut out = Rows::new(alloc);
@@ -132,22 +139,14 @@ fn text_of(alloc: Global, table: &Table<WordList>, name: &str) -> Result<Text, F
 }
 
 #[test]
-fn numbers_in_bytes(rt: HostRuntime) -> Result<(), Fail> {
-    let table = numbers_table(rt.alloc())?;
-    let bytes = bytes_of(rt.alloc(), &table)?;
-    assert!(rt; bytes.as_slice() == NUMBERS, "other bytes were put");
-    let bytes = again::<u64>(rt.alloc(), NUMBERS)?;
-    assert!(rt; bytes.as_slice() == NUMBERS, "another table was read");
-    Ok(())
-}
-
-#[test]
-fn words_in_bytes(rt: HostRuntime) -> Result<(), Fail> {
-    let table = words_table(rt.alloc())?;
-    let bytes = bytes_of(rt.alloc(), &table)?;
-    assert!(rt; bytes.as_slice() == LISTS, "other bytes were put");
-    let bytes = again::<WordList>(rt.alloc(), LISTS)?;
-    assert!(rt; bytes.as_slice() == LISTS, "another table was read");
+fn tables_in_bytes(rt: HostRuntime) -> Result<(), Fail> {
+    let numbers = numbers_table(rt.alloc())?;
+    assert!(rt; stands_so(rt.alloc(), &numbers, NUMBERS)?, "numbers");
+    let lists = words_table(rt.alloc())?;
+    assert!(rt; stands_so(rt.alloc(), &lists, LISTS)?, "lists");
+    let mut words = Table::new(rt.alloc());
+    words.insert(word("x")?, word("abcdefghijklmno0")?)?;
+    assert!(rt; stands_so(rt.alloc(), &words, WORDS)?, "words");
     Ok(())
 }
 
@@ -158,17 +157,6 @@ fn words_in_texts(rt: HostRuntime) -> Result<(), Fail> {
         let text = text_of(rt.alloc(), &table, name)?;
         assert!(rt; text.as_slice() == want.as_bytes(), "words of {name}");
     }
-    Ok(())
-}
-
-#[test]
-fn words_by_name_in_bytes(rt: HostRuntime) -> Result<(), Fail> {
-    let mut table = Table::new(rt.alloc());
-    table.insert(word("x")?, word("abcdefghijklmno0")?)?;
-    let bytes = bytes_of(rt.alloc(), &table)?;
-    assert!(rt; bytes.as_slice() == WORDS, "other bytes were put");
-    let bytes = again::<Word>(rt.alloc(), WORDS)?;
-    assert!(rt; bytes.as_slice() == WORDS, "another table was read");
     Ok(())
 }
 
