@@ -15,3 +15,6 @@ pub use stored::Stored;
 pub use table::Table;
 pub use texts::{behind, put_decimal, put_two_words, read_two_words};
 pub use word::Word;
+
+#[cfg(test)]
+mod tests;
