@@ -9,3 +9,5 @@ pub mod Made
 pub mod Closed
 pub mod Names
 pub mod Central
+pub mod Tables
+pub mod Told

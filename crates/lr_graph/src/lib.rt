@@ -1,6 +1,7 @@
 //! Which histories are legal: by the causes of updates, as sets, and by one value of each set.
 #![tactic(auto)]
 
+mod facts;
 mod laws;
 mod worked;
 
