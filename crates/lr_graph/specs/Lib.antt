@@ -11,3 +11,4 @@ pub mod Names
 pub mod Central
 pub mod Tables
 pub mod Told
+pub mod Slow

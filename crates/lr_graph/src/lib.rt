@@ -3,12 +3,14 @@
 
 mod facts;
 mod laws;
+mod slow;
 mod worked;
 
 pub use laws::{
     a_made_history_goes_on, legal_histories_are_one, ready_is_the_greatest_closed_set,
     runs_are_legal, stamps_stand_for_sets, what_is_made_is_legal,
 };
+pub use slow::{ready_of, value_of};
 pub use worked::{
     a_reply_that_is_not_taken_is_not_legal, an_addition_is_read, another_answer_is_not_legal,
 };
