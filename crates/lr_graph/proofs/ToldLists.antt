@@ -6,7 +6,7 @@ use Rattle.std.specs.List.{find, list_all, list_any}
 use Rattle.lr_base.specs.declared.names.Spot.{Spot}
 use Rattle.lr_graph.specs.Graph.{Acceptance, below_of, is_within, ready}
 use Rattle.lr_graph.specs.Sets.{SpotSet, nothing, only, same_spot, ◌∪◌}
-use Rattle.lr_graph.specs.Told.{acceptance_of, is_ready_among, ready_of_some, set_of}
+use Rattle.lr_graph.specs.Told.{acceptance_of, is_ready_among, set_of}
 use Rattle.lr_graph.specs.declared.facts.items.AcceptedUpdate.{AcceptedUpdate}
 
 either-more : (a b c : Bool) → (a || (b || c)) ≡ ((a || b) || c)
@@ -30,6 +30,7 @@ pub any-more : {X : Type 0} (p : X → Bool) (xs : List X) (x : X) → list_any 
 any-more p [] x = either-last (p x)
 any-more p (y ∷ xs) x = ap (λ b. p y || b) (any-more p xs x) ∙ either-more (p y) (list_any p xs) (p x)
 
+-- and so is one more of what is told
 map-more : {X Y : Type 0} (f : X → Y) (xs : List X) (x : X) → map f (xs ++ x ∷ []) ≡ map f xs ++ f x ∷ []
 map-more f [] x = refl
 map-more f (y ∷ xs) x = ap (λ ys. f y ∷ ys) (map-more f xs x)
@@ -44,10 +45,16 @@ set_of-more other k d first set new within before gained =
     at : (spot : Spot) → ((set_of first spot || set_of (take k other) spot) || same_spot spot (get_or other k d)) ≡ (set_of first spot || set_of (take k other ++ get_or other k d ∷ []) spot)
     at spot = sym (ap (λ b. set_of first spot || b) (any-more (same_spot spot) (take k other) (get_or other k d)) ∙ either-more (set_of first spot) (set_of (take k other) spot) (same_spot spot (get_or other k d)))
 
+-- those of some acceptances that are received with all their causes
+abbrev pub ready_of_some : {Op : Type 0} → List (Acceptance Op) → List (Acceptance Op) → SpotSet → SpotSet
+ready_of_some accepted some received spot = list_any (λ a. same_spot spot a.spot && is_ready_among accepted received a) some
+
 module _ {Op : Type 0} where
+  -- a test of what is told is one of what it tells
   pub within-told : (accepted : List (AcceptedUpdate Op)) (x y : SpotSet) → list_all (λ a. not (x a.spot) || y a.spot) accepted ≡ is_within (map acceptance_of accepted) x y
   within-told accepted x y = sym (list_all-map (λ (a : Acceptance Op). not (x a.spot) || y a.spot) acceptance_of accepted)
 
+  -- the acceptance that is found at a spot tells what is below it
   pub below_of-found : (accepted : List (AcceptedUpdate Op)) (spot : Spot) (a : AcceptedUpdate Op) → find (λ a. same_spot spot a.spot) accepted ≡ Some a → set_of a.below ≡ below_of (map acceptance_of accepted) spot
   below_of-found [] spot a found = absurd (some≢none found)
     where
@@ -69,6 +76,7 @@ module _ {Op : Type 0} where
       go true here rest = ap (λ o. set_of (or_b o).below) (sym here)
       go false here rest = rest here
 
+  -- where none is found, nothing is
   pub below_of-none : (accepted : List (AcceptedUpdate Op)) (spot : Spot) → find (λ a. same_spot spot a.spot) accepted ≡ None → nothing ≡ below_of (map acceptance_of accepted) spot
   below_of-none [] spot none = refl
   below_of-none (b ∷ accepted) spot none = go (same_spot spot b.spot) none (below_of-none accepted spot)

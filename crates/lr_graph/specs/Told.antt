@@ -84,7 +84,3 @@ told g = record {
 -- whether an acceptance is received with all its causes
 abbrev pub is_ready_among : {Op : Type 0} → List (Acceptance Op) → SpotSet → Acceptance Op → Bool
 is_ready_among accepted received a = received a.spot && is_within accepted a.below received
-
--- those of some acceptances that are received with all their causes
-abbrev pub ready_of_some : {Op : Type 0} → List (Acceptance Op) → List (Acceptance Op) → SpotSet → SpotSet
-ready_of_some accepted some received spot = list_any (λ a. same_spot spot a.spot && is_ready_among accepted received a) some

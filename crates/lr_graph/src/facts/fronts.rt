@@ -32,7 +32,8 @@ pub fn called<O: Operation>(
     op: &O,
     front: FrontNow<O>,
 ) -> Result<FrontNow<O>, NoMemory>
-    ensures { IfOk result (λ after. front_of after ≡ front_called client reading op.now (front_of front) (front_of front).open_call ((front_of front).calls == 2 ^ 62)) }
+    ensures { IfOk result (λ after. front_of after
+        ≡ front_called client reading op.now (front_of front) (front_of front).open_call ((front_of front).calls == 2 ^ 62)) }
 {
     let FrontNow {
         label,
