@@ -10,3 +10,6 @@ pub mod Closed
 pub mod Names
 pub mod Central
 pub mod Orderings
+pub mod Tables
+pub mod Told
+pub mod Slow

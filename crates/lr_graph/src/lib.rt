@@ -1,13 +1,16 @@
 //! Which histories are legal: by the causes of updates, as sets, and by one value of each set.
 #![tactic(auto)]
 
+mod facts;
 mod laws;
+mod slow;
 mod worked;
 
 pub use laws::{
     a_made_history_goes_on, every_order_gives_one_value, legal_histories_are_one,
     ready_is_the_greatest_closed_set, runs_are_legal, stamps_stand_for_sets, what_is_made_is_legal,
 };
+pub use slow::{ready_of, value_of};
 pub use worked::{
     a_reply_that_is_not_taken_is_not_legal, an_addition_is_read, another_answer_is_not_legal,
 };

@@ -1,0 +1,257 @@
+//! Reading a history: how its facts change by each event, and by each line that is printed of it.
+ghost use Rattle.std.specs.Prelude.{◌≡◌, ◌==◌, Some, None, IfOk, OnOk, find};
+ghost use Rattle.std.specs.Option.{option_copied, option_map};
+ghost use Rattle.lr_graph.specs.After.{accept_read, after, delivered, event_read, got_read, line_read, lines_read, take_read};
+ghost use Rattle.lr_graph.specs.Central.{facts_after};
+ghost use Rattle.lr_graph.specs.Graph.{first_facts};
+ghost use Rattle.lr_graph.specs.Told.{bare, load_of, message_of, told};
+
+use crate::facts::fronts::called;
+use crate::facts::items::{Gathered, Load, SentCopy};
+use lr_base::lr_service::Operation;
+use lr_base::{Actor, Event, NoMemory, Outcome, Spot, Step};
+use std::alloc::Global;
+
+impl<O: Operation> Gathered<O> {
+    // A call is made, if the event is one.
+    fn read_event(&mut self, alloc: Global, event: &Event<O>) -> Result<(), NoMemory>
+        ensures { OnOk result (told self.new ≡ event_read (told self.old) event.now) }
+    {
+        match event {
+            Event::Call {
+                client,
+                replica: _replica,
+                reading,
+                op,
+            } => {
+                let front = self.front_at(alloc, *client)?;
+                let front = called(*client, *reading, op, front)?;
+                self.set_front(*client, front)
+            }
+            Event::Deliver { message: _message } => Ok(()),
+            Event::Gossip {
+                from: _from,
+                to: _to,
+            } => Ok(()),
+            Event::Show { replica: _replica } => Ok(()),
+        }
+    }
+
+    // The message that an event delivers, if there is one.
+    fn delivered(&self, event: &Event<O>) -> Result<Option<SentCopy<O>>, NoMemory>
+        ensures { IfOk result (λ came. option_map message_of came ≡ delivered (told self.now) event.now) }
+    {
+        match event {
+            Event::Deliver { message } => copy_numbered(self.messages.as_slice(), *message),
+            Event::Call {
+                client: _client,
+                replica: _replica,
+                reading: _reading,
+                op: _op,
+            } => Ok(None),
+            Event::Gossip {
+                from: _from,
+                to: _to,
+            } => Ok(None),
+            Event::Show { replica: _replica } => Ok(None),
+        }
+    }
+
+    // `accept`: a replica that an update came to accepts its call.
+    fn read_accept(&mut self, alloc: Global, spot: Spot, came: &SentCopy<O>) -> Result<(), NoMemory>
+        ensures { OnOk result (told self.new ≡ accept_read (told self.old) spot came.now.to (load_of came.now.load)) }
+    {
+        let Actor::Replica(replica) = came.to else {
+            return Ok(());
+        };
+        match &came.load {
+            Load::Update { call, time: _time } => self.accept(alloc, replica, spot, call),
+            Load::Query { call: _call } => Ok(()),
+            Load::Done {
+                cid: _cid,
+                names: _names,
+            } => Ok(()),
+            Load::Answer {
+                cid: _cid,
+                names: _names,
+            } => Ok(()),
+            Load::Gossip { names: _names } => Ok(()),
+            Load::Nothing => Ok(()),
+        }
+    }
+
+    // `take`: a replica that gossip came to receives what it carries.
+    fn read_take(&mut self, alloc: Global, came: &SentCopy<O>) -> Result<(), NoMemory>
+        ensures { OnOk result (told self.new ≡ take_read (told self.old) came.now.to (load_of came.now.load)) }
+    {
+        let Actor::Replica(replica) = came.to else {
+            return Ok(());
+        };
+        match &came.load {
+            Load::Gossip { names } => self.take(alloc, replica, names),
+            Load::Update {
+                call: _call,
+                time: _time,
+            } => Ok(()),
+            Load::Query { call: _call } => Ok(()),
+            Load::Done {
+                cid: _cid,
+                names: _names,
+            } => Ok(()),
+            Load::Answer {
+                cid: _cid,
+                names: _names,
+            } => Ok(()),
+            Load::Nothing => Ok(()),
+        }
+    }
+
+    // `got`: a front end that a reply came to takes it.
+    fn read_got(&mut self, alloc: Global, came: &SentCopy<O>) -> Result<(), NoMemory>
+        ensures { OnOk result (told self.new ≡ got_read (told self.old) came.now.to (load_of came.now.load)) }
+    {
+        let Actor::Client(client) = came.to else {
+            return Ok(());
+        };
+        match &came.load {
+            Load::Done { cid: _cid, names } => self.take_reply(alloc, client, names),
+            Load::Answer { cid: _cid, names } => self.take_reply(alloc, client, names),
+            Load::Update {
+                call: _call,
+                time: _time,
+            } => Ok(()),
+            Load::Query { call: _call } => Ok(()),
+            Load::Gossip { names: _names } => Ok(()),
+            Load::Nothing => Ok(()),
+        }
+    }
+
+    // A line that says what became of a message that came.
+    fn read_of_message(
+        &mut self,
+        alloc: Global,
+        came: &SentCopy<O>,
+        line: &Outcome,
+    ) -> Result<(), NoMemory>
+        ensures { OnOk result (told self.new ≡ bare (line_read (Some (message_of came.now)) (told self.old) line.now)) }
+    {
+        match line {
+            Outcome::Send {
+                number,
+                from,
+                to,
+                what,
+            } => self.send(alloc, *number, *from, *to, what),
+            Outcome::Accept { spot, cid: _cid } => self.read_accept(alloc, *spot, came),
+            Outcome::Take { count: _count } => self.read_take(alloc, came),
+            Outcome::Got { cid: _cid } => self.read_got(alloc, came),
+            Outcome::Hold { cid: _cid } => Ok(()),
+            Outcome::Stale { cid: _cid } => Ok(()),
+            Outcome::NoMessage { message: _message } => Ok(()),
+            Outcome::Refuse { why: _why } => Ok(()),
+            Outcome::State { line: _line } => Ok(()),
+        }
+    }
+
+    // A line where no message came.
+    fn read_alone(&mut self, alloc: Global, line: &Outcome) -> Result<(), NoMemory>
+        ensures { OnOk result (told self.new ≡ bare (line_read None (told self.old) line.now)) }
+    {
+        match line {
+            Outcome::Send {
+                number,
+                from,
+                to,
+                what,
+            } => self.send(alloc, *number, *from, *to, what),
+            Outcome::Accept {
+                spot: _spot,
+                cid: _cid,
+            } => Ok(()),
+            Outcome::Take { count: _count } => Ok(()),
+            Outcome::Got { cid: _cid } => Ok(()),
+            Outcome::Hold { cid: _cid } => Ok(()),
+            Outcome::Stale { cid: _cid } => Ok(()),
+            Outcome::NoMessage { message: _message } => Ok(()),
+            Outcome::Refuse { why: _why } => Ok(()),
+            Outcome::State { line: _line } => Ok(()),
+        }
+    }
+
+    // A printed line.
+    fn read_line(
+        &mut self,
+        alloc: Global,
+        came: &Option<SentCopy<O>>,
+        line: &Outcome,
+    ) -> Result<(), NoMemory>
+        ensures { OnOk result (told self.new ≡ bare (line_read (option_map message_of came.now) (told self.old) line.now)) }
+    {
+        match came {
+            Some(message) => self.read_of_message(alloc, message, line),
+            None => self.read_alone(alloc, line),
+        }
+    }
+}
+
+// The first of these messages that has this number.
+fn numbered<O>(messages: &[SentCopy<O>], number: u64) -> Option<&SentCopy<O>>
+    ensures { option_copied result ≡ find (λ x. x.number == number) messages.now }
+{
+    messages.iter().find(|message| message.number == number)
+}
+
+// A copy of it, if there is one.
+fn copy_numbered<O: Operation>(
+    messages: &[SentCopy<O>],
+    number: u64,
+) -> Result<Option<SentCopy<O>>, NoMemory>
+    ensures { IfOk result (λ came. came ≡ find (λ x. x.number == number) messages.now) }
+{
+    match numbered(messages, number) {
+        Some(message) => {
+            let message = message.copy()?;
+            Ok(Some(message))
+        }
+        None => Ok(None),
+    }
+}
+
+// The lines of one event, in order.
+fn read_lines<O: Operation>(
+    facts: &mut Gathered<O>,
+    alloc: Global,
+    came: &Option<SentCopy<O>>,
+    lines: &[Outcome],
+) -> Result<(), NoMemory>
+    ensures { OnOk result (told facts.new ≡ bare (lines_read (option_map message_of came.now) (told facts.old) lines.now)) }
+{
+    for line in lines {
+        facts.read_line(alloc, came, line)?;
+    }
+    Ok(())
+}
+
+// One step: its event, and then its lines.
+fn read_step<O: Operation>(
+    facts: &mut Gathered<O>,
+    alloc: Global,
+    step: &Step<O>,
+) -> Result<(), NoMemory>
+    ensures { OnOk result (told facts.new ≡ bare (after (told facts.old) step.now)) }
+{
+    let came = facts.delivered(&step.event)?;
+    facts.read_event(alloc, &step.event)?;
+    read_lines(facts, alloc, &came, step.outcomes.as_slice())
+}
+
+/// The facts after a history.
+pub fn facts_of<O: Operation>(alloc: Global, history: &[Step<O>]) -> Result<Gathered<O>, NoMemory>
+    ensures { IfOk result (λ facts. told facts ≡ bare (facts_after first_facts history.now)) }
+{
+    let mut facts = Gathered::new(alloc);
+    for step in history {
+        read_step(&mut facts, alloc, step)?;
+    }
+    Ok(facts)
+}
