@@ -4,7 +4,6 @@ use Rattle.std.specs.Fmt.{decimal}
 use Rattle.std.specs.Io.KnownBytes.{Appends}
 use Rattle.std.specs.declared.alloc.Global.{Global}
 use Rattle.lr_outside.specs.Faults.{Rose}
-use Rattle.svc_tally.specs.Tally.{tally}
 use Rattle.lr_sim.specs.Ends.{IsComplete, SimEnded, SimMeans}
 use Rattle.lr_sim.specs.declared.command.SimEnd.{SimEnd}
 use Rattle.lr_sim.specs.declared.command.SimEnd.TheVariants.{Ok as Done, Script, ReadFault, WriteFault, NoMemory}
@@ -66,8 +65,8 @@ pub record Told (err_before err_now : ℕ) (told_before told_now : Option (List 
 -- the exit status is that of an end of the simulation, which means what it says of the bytes left and held; where neither source nor sink met a fault it is complete, and where standard error didn't fail that end was told there
 pub record SimStatus {Out : Type 0} (left_before left_now held_before held_now : Option (List ℕ)) (read_before read_now write_before write_now : ℕ) (out_before out_now : Out) (err_before err_now : ℕ) (told_before told_now : Option (List ℕ)) (code : ℕ) : Type 0 where
   pub end : SimEnd
-  pub meant : SimMeans tally left_before left_now held_before held_now end
+  pub meant : SimMeans left_before left_now held_before held_now end
   pub ended : SimEnded read_before read_now write_before write_now out_before out_now end
-  pub complete : ¬ (Rose read_before read_now) → ¬ (Rose write_before write_now) → IsComplete tally left_before left_now end
+  pub complete : ¬ (Rose read_before read_now) → ¬ (Rose write_before write_now) → IsComplete left_before left_now end
   pub status : code ≡ code_of end
   pub told : ¬ (Rose err_before err_now) → Appends told_before told_now (text_of end)
