@@ -17,6 +17,21 @@ fn told(alloc: Global, value: &mut Claims, text: &str) -> Result<Text, Fail> {
     }
 }
 
+// The place of the first operation that answers otherwise, if one does.
+fn first_wrong(
+    alloc: Global,
+    value: &mut Claims,
+    story: &[(&str, &str)],
+) -> Result<Option<usize>, Fail> {
+    for (place, (text, want)) in story.iter().enumerate() {
+        let answer = told(alloc, value, text)?;
+        if answer.as_slice() != want.as_bytes() {
+            return Ok(Some(place));
+        }
+    }
+    Ok(None)
+}
+
 // (operation, answer): updates answer nothing
 const STORY: [(&str, &str); 25] = [
     ("who x", "- 0"),
@@ -49,28 +64,25 @@ const STORY: [(&str, &str); 25] = [
 #[test]
 fn answers_of_operations_in_a_row(rt: HostRuntime) -> Result<(), Fail> {
     let mut claims = Claims::start(rt.alloc())?;
-    for (text, want) in STORY {
-        let answer = told(rt.alloc(), &mut claims, text)?;
-        assert!(rt;
-            answer.as_slice() == want.as_bytes(),
-            "another answer to {text}"
-        );
-    }
+    let wrong = first_wrong(rt.alloc(), &mut claims, &STORY)?;
+    assert_eq!(rt; wrong, None);
     Ok(())
 }
 
 #[test]
 fn a_copy_stays_as_it_was(rt: HostRuntime) -> Result<(), Fail> {
-    let mut claims = Claims::start(rt.alloc())?;
-    told(rt.alloc(), &mut claims, "claim x ann")?;
-    told(rt.alloc(), &mut claims, "note x a")?;
+    let mut claims = Claims::get(rt.alloc(), &BYTES)?;
     let mut copied = claims.copy()?;
-    told(rt.alloc(), &mut claims, "clear x")?;
-    told(rt.alloc(), &mut claims, "note x b")?;
-    let answer = told(rt.alloc(), &mut copied, "who x")?;
-    assert!(rt; answer.as_slice() == b"ann 1 a".as_slice());
-    let answer = told(rt.alloc(), &mut claims, "who x")?;
-    assert!(rt; answer.as_slice() == b"- 1 b".as_slice());
+    let story = [
+        ("clear d", ""),
+        ("note ab z", ""),
+        ("who ab", "c 3 x x z"),
+        ("who d", "- 0"),
+    ];
+    let wrong = first_wrong(rt.alloc(), &mut claims, &story)?;
+    assert_eq!(rt; wrong, None, "of what was changed");
+    let wrong = first_wrong(rt.alloc(), &mut copied, &ANSWERS)?;
+    assert_eq!(rt; wrong, None, "of the copy");
     Ok(())
 }
 
@@ -153,13 +165,16 @@ fn texts_that_are_none(rt: HostRuntime) {
 }
 
 // c owns ab and e owns d; ab has the notes x and x, and d has y
-const OPERATIONS: [&str; 5] = [
-    "claim d e",
-    "note ab x",
-    "note d y",
-    "claim ab c",
-    "note ab x",
+const OPERATIONS: [(&str, &str); 5] = [
+    ("claim d e", ""),
+    ("note ab x", ""),
+    ("note d y", ""),
+    ("claim ab c", ""),
+    ("note ab x", ""),
 ];
+
+// what that value answers
+const ANSWERS: [(&str, &str); 3] = [("who ab", "c 2 x x"), ("who d", "e 1 y"), ("who c", "- 0")];
 
 // 00000002 02.6162 01.63 01.64 01.65  00000002 02.6162 00000002 01.78 01.78 01.64 00000001 01.79
 const BYTES: [u8; 36] = [
@@ -173,6 +188,13 @@ const FIELDS: [u64; 36] = [
     26, 27, 28, 29, 30, 30, 30, 30, 34, 35,
 ];
 
+// The value's bytes.
+fn spelling(alloc: Global, value: &Claims) -> Result<Text, Fail> {
+    let mut out = Rows::new(alloc);
+    value.put(&mut out)?;
+    Ok(out)
+}
+
 // What the bytes are refused for, if they are.
 fn fault_of(alloc: Global, bytes: &[u8]) -> Option<GetFault> {
     match Claims::get(alloc, bytes) {
@@ -185,8 +207,7 @@ fn fault_of(alloc: Global, bytes: &[u8]) -> Option<GetFault> {
 fn comes_back(alloc: Global, bytes: &[u8]) -> Result<bool, Fail> {
     match Claims::get(alloc, bytes) {
         Ok(value) => {
-            let mut out = Rows::new(alloc);
-            value.put(&mut out)?;
+            let out = spelling(alloc, &value)?;
             Ok(out.as_slice() == bytes)
         }
         Err(fault) => Ok(fault != GetFault::NoMemory),
@@ -199,25 +220,22 @@ fn bad(at: u64, what: BadWhat) -> Option<GetFault> {
 }
 
 #[test]
-fn a_value_and_its_bytes(rt: HostRuntime) -> Result<(), Fail> {
+fn bytes_of_values(rt: HostRuntime) -> Result<(), Fail> {
     let mut claims = Claims::start(rt.alloc())?;
-    let mut out = Rows::new(rt.alloc());
-    claims.put(&mut out)?;
-    assert!(rt;
-        out.as_slice() == [0, 0, 0, 0, 0, 0, 0, 0].as_slice(),
-        "no names"
-    );
-    for text in OPERATIONS {
-        told(rt.alloc(), &mut claims, text)?;
-    }
-    out.clear();
-    claims.put(&mut out)?;
-    assert!(rt; out.as_slice() == BYTES.as_slice(), "two names");
-    let mut read = Claims::get(rt.alloc(), &BYTES)?;
-    for (text, want) in [("who ab", "c 2 x x"), ("who d", "e 1 y"), ("who c", "- 0")] {
-        let answer = told(rt.alloc(), &mut read, text)?;
-        assert!(rt; answer.as_slice() == want.as_bytes(), "{text}");
-    }
+    let bytes = spelling(rt.alloc(), &claims)?;
+    assert!(rt; bytes.as_slice() == [0; 8].as_slice(), "of no names");
+    let wrong = first_wrong(rt.alloc(), &mut claims, &OPERATIONS)?;
+    assert_eq!(rt; wrong, None);
+    let bytes = spelling(rt.alloc(), &claims)?;
+    assert!(rt; bytes.as_slice() == BYTES.as_slice(), "of two names");
+    Ok(())
+}
+
+#[test]
+fn the_value_of_bytes(rt: HostRuntime) -> Result<(), Fail> {
+    let mut claims = Claims::get(rt.alloc(), &BYTES)?;
+    let wrong = first_wrong(rt.alloc(), &mut claims, &ANSWERS)?;
+    assert_eq!(rt; wrong, None);
     Ok(())
 }
 
