@@ -229,33 +229,3 @@ module _ {A : Type 0} (may : Option A → A → Bool) (written : A → List ℕ)
 pub length-flat_map-le : {A : Type 0} (written : A → List ℕ) → ((x : A) → 1 ≤ length (written x)) → (xs : List A) → length xs ≤ length (flat_map written xs)
 length-flat_map-le written some [] = omega arith
 length-flat_map-le written some (x ∷ xs) = omega (arith, some x, length-flat_map-le written some xs, length-append (written x) (flat_map written xs))
-
--- two exact fields, one behind the other, make an exact field of what both make
-pub both-exact : {A B C : Type 0} (make : A → B → C) (first : C → A) (second : C → B) → ((c : C) → make (first c) (second c) ≡ c) → ((a : A) (b : B) → first (make a b) ≡ a) → ((a : A) (b : B) → second (make a b) ≡ b)
-    → (is_a : A → Bool) (write_a : A → List ℕ) (field_a : List ℕ → Reading A) (is_b : B → Bool) (write_b : B → List ℕ) (field_b : List ℕ → Reading B)
-    → IsExact is_a write_a field_a → IsExact is_b write_b field_b
-    → IsExact (λ c. is_a (first c) && is_b (second c)) (λ c. write_a (first c) ++ write_b (second c)) (λ bytes. and_then (field_a bytes) (λ a rest. and_then (field_b rest) (λ b end. Found (make a b) end)))
-both-exact {A} {B} {C} make first second whole left right is_a write_a field_a is_b write_b field_b exact_a exact_b = record {
-  forth = λ c rest is fits.
-      let parts = and_parts (is_a (first c)) (is_b (second c)) is in
-      let behind = write_b (second c) ++ rest in
-      let next : A → List ℕ → Reading C = λ a rest. and_then (field_b rest) (λ b end. Found (make a b) end) in
-      let long = length-append (write_a (first c)) (write_b (second c)) in
-      ap (λ b. and_then (field_a b) next) (append_assoc (write_a (first c)) (write_b (second c)) rest)
-      ∙ ap (λ r. and_then r next) (exact_a.forth (first c) behind parts.0 (omega arith))
-      ∙ ap (λ r. and_then r (λ b end. Found (make (first c) b) end)) (exact_b.forth (second c) rest parts.1 (omega arith))
-      ∙ ap (λ (v : C). Found v rest) (whole c);
-  back = λ bytes c rest are found.
-      let a = and_then-found (field_a bytes) (λ a rest. and_then (field_b rest) (λ b end. Found (make a b) end)) c rest found in
-      let b = and_then-found (field_b a.1) (λ b end. Found (make a.0 b) end) c rest a.3 in
-      let head = exact_a.back bytes a.0 a.1 are a.2 in
-      let tail = exact_b.back a.1 b.0 b.1 (are_bytes-behind bytes (write_a a.0) a.1 are head.0) b.2 in
-      let made : make a.0 b.0 ≡ c = cc in
-      let end : b.1 ≡ rest = cc in
-      let one : a.0 ≡ first c = sym (left a.0 b.0) ∙ ap first made in
-      let two : b.0 ≡ second c = sym (right a.0 b.0) ∙ ap second made in (
-        head.0 ∙ ap (λ b. write_a a.0 ++ b) tail.0 ∙ sym (append_assoc (write_a a.0) (write_b b.0) b.1)
-            ∙ ap (λ (x : A). (write_a x ++ write_b b.0) ++ b.1) one ∙ ap (λ (y : B). (write_a (first c) ++ write_b y) ++ b.1) two ∙ ap (λ r. (write_a (first c) ++ write_b (second c)) ++ r) end,
-        and_from _ _ (ap is_a (sym one) ∙ head.1) (ap is_b (sym two) ∙ tail.1),
-      );
-}

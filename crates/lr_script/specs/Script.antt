@@ -55,9 +55,9 @@ pub record HasHeader (header : Header) (bytes : List ℕ) : Type 0 where
   pub rest : List ℕ
   pub text : bytes ≡ line_of (header_text header) ++ rest
 
--- a header that the bytes begin with names the service of this number
+-- a header that is read of the bytes names the service of this number
 abbrev pub IsNamed : ℕ → List ℕ → Type 0
-IsNamed number bytes = (header : Header) → HasHeader header bytes → service_number header.service ≡ number
+IsNamed number bytes = (header : Header) → HasHeader header bytes → length bytes ≤ 8388608 → service_number header.service ≡ number
 
 -- the bytes are few enough, and the text of this header and these events
 pub record IsScript {Value Op : Type 0} (m : Meaning Value Op) (header : Header) (events : List (Event Op)) (bytes : List ℕ) : Type 0 where

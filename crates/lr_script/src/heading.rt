@@ -5,7 +5,7 @@ ghost use Rattle.lr_script.specs.declared.heading.Header.{Header};
 ghost use Rattle.lr_script.specs.declared.heading.Name.{Name};
 ghost use Rattle.lr_script.specs.Fields.{spaces, IsConfigFields};
 ghost use Rattle.lr_script.specs.Script.{IsSetUp};
-ghost use Rattle.lr_script.specs.Texts.{header_text, service_text, config_text};
+ghost use Rattle.lr_script.specs.Texts.{header_text, service_number, service_text, config_text};
 
 use crate::fields::split_field;
 use lr_base::{Config, read_number};
@@ -16,6 +16,19 @@ pub enum Name {
     Tally,
     Mail,
     Claims,
+}
+
+impl Name {
+    /// The service's number in stable bytes.
+    pub fn number(self) -> u8
+        ensures { result ≡ service_number self }
+    {
+        match self {
+            Name::Tally => 1,
+            Name::Mail => 2,
+            Name::Claims => 3,
+        }
+    }
 }
 
 /// What a script's first line says.

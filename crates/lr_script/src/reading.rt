@@ -1,5 +1,5 @@
 //! The whole script, read from its bytes.
-ghost use Rattle.std.specs.Prelude.{◌≡◌, ◌≢◌, ℕ, ◌+◌, ◌<◌, ◌≤◌, ◌++◌, ◌↔◌, ◌⊎◌, List, length, IfOk, IfErr};
+ghost use Rattle.std.specs.Prelude.{◌≡◌, ◌≢◌, ℕ, ◌+◌, ◌<◌, ◌≤◌, ◌++◌, ◌↔◌, ◌⊎◌, List, length, IsTrue, IfOk, IfErr};
 ghost use Rattle.std.specs.List.{All};
 ghost use Rattle.lr_base.specs.declared.events.Event.{Event};
 ghost use Rattle.lr_script.specs.declared.heading.Header.{Header};
@@ -36,7 +36,17 @@ pub fn read_header(bytes: &[u8]) -> Result<Header, ScriptFault>
     Ok(header)
 }
 
-/// The events of a script, in the order of their lines. It is asked where a header that reads names the service `S`.
+/// Whether a header that is read of the bytes names the service `S`, so that they may be read as its script.
+pub fn is_for<S: Service>(bytes: &[u8]) -> bool
+    ensures { IsTrue result ↔ IsNamed S.NUMBER bytes.now }
+{
+    match read_header(bytes) {
+        Ok(header) => header.service.number() == S::NUMBER,
+        Err(_) => true,
+    }
+}
+
+/// The events of a script, in the order of their lines. A header that is read of the bytes has to name the service `S`, which `is_for` tests.
 pub fn read_script<S: Service>(
     alloc: Global,
     bytes: &[u8],

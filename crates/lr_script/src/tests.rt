@@ -1,10 +1,13 @@
 //! Scripts that are read and printed again, and bytes that are none.
-use crate::{Cause, ScriptFault, print_event, read_header, read_script};
-use svc_tally::{Tally, TallyOp};
+use crate::{Cause, ScriptFault, is_for, print_event, read_header, read_script};
+use lr_base::lr_service::Service;
 use lr_base::{Event, NoMemory, Rows, Text};
 use std::alloc::Global;
 use std::process::Abort;
 use std::test::Fail;
+use svc_claims::Claims;
+use svc_mail::Mail;
+use svc_tally::Tally;
 
 const HEADER: &str = "lazyrep 1 tally 1 1 10\n";
 
@@ -21,8 +24,8 @@ const BAD_HEADERS: [(&str, u64, Cause); 35] = [
     ("lazyrep 1 mail\x00 1 1 10\n", 1, Cause::Byte),
     ("lazyrep 1 tally 10 1 10\n", 1, Cause::Header),
     ("lazyrep 1 tally 0 1 10\n", 1, Cause::Header),
-    ("lazyrep 1 mail 1 1 10\n", 1, Cause::Header),
-    ("lazyrep 1 claims 1 1 10\n", 1, Cause::Header),
+    ("lazyrep 1 mails 1 1 10\n", 1, Cause::Header),
+    ("lazyrep 1 claim 1 1 10\n", 1, Cause::Header),
     ("lazyrep 1 Tally 1 1 10\n", 1, Cause::Header),
     ("Lazyrep 1 tally 1 1 10\n", 1, Cause::Header),
     ("lazyrep 2 tally 1 1 10\n", 1, Cause::Header),
@@ -51,7 +54,7 @@ const BAD_HEADERS: [(&str, u64, Cause); 35] = [
         1,
         Cause::Header,
     ),
-    ("lazyrep 1 mail 1 1 10\nshow\t0\n", 1, Cause::Header),
+    ("lazyrep 1 mall 1 1 10\nshow\t0\n", 1, Cause::Header),
     ("show 0\n", 1, Cause::Header),
 ];
 
@@ -191,19 +194,40 @@ const GOOD: [(&str, u32, &str); 7] = [
     ),
 ];
 
-// The events' lines of a script, printed again behind its header's line.
-fn printed(alloc: Global, script: &str) -> Result<Text, ScriptFault> {
-    let events = read_script::<Tally>(alloc, script.as_bytes())?;
-    match event_lines(alloc, events.as_slice()) {
+// (the lines behind a header of mail and of claims for one replica and one client, line, cause)
+const BAD_MAIL: [(&str, u64, Cause); 6] = [
+    ("call 0 0 5 add ann\n", 2, Cause::Op),
+    ("call 0 0 5 delete ann\n", 2, Cause::Op),
+    ("call 0 0 5 send ann\n", 2, Cause::Op),
+    ("call 0 0 5 add x 3\n", 2, Cause::Op),
+    ("call 0 0 5 who ann\n", 2, Cause::Op),
+    ("show 0\ncall 0 0 5 send ann  hi\n", 3, Cause::Op),
+];
+
+const BAD_CLAIMS: [(&str, u64, Cause); 5] = [
+    ("call 0 0 5 claim a ann\n", 2, Cause::Op),
+    ("call 0 0 5 clear a\n", 2, Cause::Op),
+    ("call 0 0 5 note a\n", 2, Cause::Op),
+    ("call 0 0 5 read a\n", 2, Cause::Op),
+    ("show 0\ncall 0 0 5 who A\n", 3, Cause::Op),
+];
+
+// The events' lines of a script, printed again behind its header's line; none where its header names another service.
+fn printed<S: Service>(alloc: Global, script: &str) -> Result<Text, ScriptFault> {
+    if !is_for::<S>(script.as_bytes()) {
+        return Ok(Rows::new(alloc));
+    }
+    let events = read_script::<S>(alloc, script.as_bytes())?;
+    match event_lines::<S>(alloc, events.as_slice()) {
         Ok(lines) => Ok(lines),
         Err(NoMemory) => Err(ScriptFault::NoMemory),
     }
 }
 
-fn event_lines(alloc: Global, events: &[Event<TallyOp>]) -> Result<Text, NoMemory> {
+fn event_lines<S: Service>(alloc: Global, events: &[Event<S::Op>]) -> Result<Text, NoMemory> {
     let mut lines = Rows::new(alloc);
     for event in events {
-        print_event::<Tally>(event, &mut lines)?;
+        print_event::<S>(event, &mut lines)?;
         lines.push(b'\n')?;
     }
     Ok(lines)
@@ -229,7 +253,7 @@ fn bad_headers_are_refused(rt: HostRuntime) -> Result<(), Fail> {
             Ok(_) => assert!(rt; false, "taken: {text}"),
             Err(fault) => assert_fault(&rt, fault, line, cause, text),
         }
-        match printed(rt.alloc(), text) {
+        match printed::<Tally>(rt.alloc(), text) {
             Ok(_) => assert!(rt; false, "taken: {text}"),
             Err(fault) => assert_fault(&rt, fault, line, cause, text),
         }
@@ -237,16 +261,27 @@ fn bad_headers_are_refused(rt: HostRuntime) -> Result<(), Fail> {
     Ok(())
 }
 
-#[test]
-fn bad_lines_are_refused(rt: HostRuntime) -> Result<(), Fail> {
-    for (lines, line, cause) in BAD_LINES {
-        let script = format!(in rt.alloc(); "{HEADER}{lines}")?;
-        match printed(rt.alloc(), script.as_str()) {
+fn check_bad<S: Service>(
+    rt: &impl Abort,
+    alloc: Global,
+    header: &str,
+    cases: &[(&str, u64, Cause)],
+) -> Result<(), Fail> {
+    for (lines, line, cause) in cases {
+        let script = format!(in alloc; "{header}{lines}")?;
+        match printed::<S>(alloc, script.as_str()) {
             Ok(_) => assert!(rt; false, "taken: {lines}"),
-            Err(fault) => assert_fault(&rt, fault, line, cause, lines),
+            Err(fault) => assert_fault(rt, fault, *line, *cause, lines),
         }
     }
     Ok(())
+}
+
+#[test]
+fn bad_lines_are_refused(rt: HostRuntime) -> Result<(), Fail> {
+    check_bad::<Tally>(&rt, rt.alloc(), HEADER, &BAD_LINES)?;
+    check_bad::<Mail>(&rt, rt.alloc(), "lazyrep 1 mail 1 1 10\n", &BAD_MAIL)?;
+    check_bad::<Claims>(&rt, rt.alloc(), "lazyrep 1 claims 1 1 10\n", &BAD_CLAIMS)
 }
 
 #[test]
@@ -255,9 +290,20 @@ fn good_scripts_are_printed_again(rt: HostRuntime) -> Result<(), Fail> {
         let script = format!(in rt.alloc(); "{header}{lines}")?;
         let read = read_header(script.as_bytes())?;
         assert_eq!(rt; read.config.clients, clients, "in {script}");
-        let again = printed(rt.alloc(), script.as_str())?;
+        let again = printed::<Tally>(rt.alloc(), script.as_str())?;
         assert!(rt; again.as_slice() == lines.as_bytes(), "in {script}");
     }
+    let mail = "call 0 0 5 send ann hi\ncall 0 0 6 read ann\nshow 0\n";
+    let claims = "call 0 0 5 note a abcdefghijklmnop\ncall 0 0 6 who 0\ngossip 1 0\n";
+    let mail_script = format!(in rt.alloc(); "lazyrep 1 mail 9 64 0\n{mail}")?;
+    let claims_script = format!(in rt.alloc(); "lazyrep 1 claims 2 1 7\n{claims}")?;
+    let again = printed::<Mail>(rt.alloc(), mail_script.as_str())?;
+    assert!(rt; again.as_slice() == mail.as_bytes(), "in the script of mail");
+    let again = printed::<Claims>(rt.alloc(), claims_script.as_str())?;
+    assert!(rt; again.as_slice() == claims.as_bytes(), "in the script of claims");
+    let other = printed::<Mail>(rt.alloc(), claims_script.as_str())?;
+    assert!(rt; other.is_empty(), "claims aren't mail");
+    assert!(rt; !is_for::<Tally>(mail_script.as_bytes()), "mail isn't the tally");
     Ok(())
 }
 
@@ -272,10 +318,7 @@ fn the_longest_input_is_read_as_lines(rt: HostRuntime) -> Result<(), Fail> {
             Ok(_) => assert!(rt; false, "taken"),
             Err(fault) => assert_fault(&rt, fault, line, cause, "spaces"),
         }
-        match read_script::<Tally>(rt.alloc(), bytes.as_slice()) {
-            Ok(_) => assert!(rt; false, "taken"),
-            Err(fault) => assert_fault(&rt, fault, line, cause, "spaces"),
-        }
+        assert!(rt; is_for::<Tally>(bytes.as_slice()), "no header names another service");
     }
     Ok(())
 }

@@ -128,7 +128,7 @@ module _ (header : Header) (bytes : List ℕ) (has : HasHeader header bytes) (on
 
   -- the header names the service of its number
   pub named-by : (number : ℕ) → service_number header.service ≡ number → IsNamed number bytes
-  named-by number is other begins = ap (λ (h : Header). service_number h.service) (one other begins) ∙ is
+  named-by number is other begins short = ap (λ (h : Header). service_number h.service) (one other begins) ∙ is
 
 -- a header that was read is the only one that the bytes begin with
 pub one-header : (header : Header) (bytes : List ℕ) (result : Result Header ScriptFault) → result ≡ Ok header → length bytes ≤ 8388608 → ((other : Header) → HasHeader other bytes × (length bytes ≤ 8388608) → result ≡ Ok other) → (other : Header) → HasHeader other bytes → other ≡ header

@@ -2,6 +2,7 @@
 use Rattle.std.proofs.Common.{◌≡◌, ◌<◌, ◌^◌, ℕ, Bool, true, false, ◌&&◌, List, [], ◌∷◌, ◌++◌, length, refl, sym, ◌∙◌, ap, subst, arith, length-append}
 use Rattle.std.proofs.lemmas.List.{append_assoc, append-nil}
 use Rattle.std.proofs.lemmas.Bool.{and_parts}
+use Rattle.lr_base.specs.ByteLaws.{and_then-found, are_bytes-behind}
 use Rattle.lr_base.specs.Bytes.{Reading, Found, Wrong, and_then, Decoded, Good, Bad, whole, are_bytes, IsExact}
 use Rattle.lr_base.specs.declared.bytes.BadWhat.{BadWhat}
 use Rattle.lr_words.specs.Tables.{Format}
@@ -26,24 +27,6 @@ renamed to from f = record {
 abbrev pub IsExactFormat : {A : Type 0} → Format A → Type 0
 IsExactFormat f = IsExact f.is_value f.written f.field
 
--- what is read behind something is the rest of the bytes
-pub are_bytes-behind : (front rest : List ℕ) → are_bytes (front ++ rest) ≡ true → are_bytes rest ≡ true
-are_bytes-behind [] rest all = all
-are_bytes-behind (x ∷ front) rest all = are_bytes-behind front rest (and_parts _ _ all).1
-
--- what was found was found where it was looked for
-abbrev pub FoundBoth : {A B : Type 0} → Reading A → (A → List ℕ → Reading B) → B → List ℕ → Type 0
-FoundBoth {A} first next value end = (a : A) × (rest : List ℕ) × (first ≡ Found a rest) × (next a rest ≡ Found value end)
-
--- a reading that is wrong finds nothing
-wrong-found : {A : Type 0} (left : ℕ) (what : BadWhat) (value : A) (end : List ℕ) → Wrong left what ≡ Found value end → ⊥
-wrong-found left what value end is = cc
-
--- what two readings find, each of them found
-pub found-both : {A B : Type 0} (first : Reading A) (next : A → List ℕ → Reading B) (value : B) (end : List ℕ) → and_then first next ≡ Found value end → FoundBoth first next value end
-found-both (Found a rest) next value end is = (a, rest, refl, is)
-found-both (Wrong left what) next value end is = absurd (wrong-found left what value end is)
-
 -- a reading finds one value
 pub found-same : {A : Type 0} (a value : A) (rest end : List ℕ) → Found a rest ≡ Found value end → (a ≡ value) × (rest ≡ end)
 found-same a value rest end is = (cc, cc)
@@ -61,11 +44,11 @@ both-exact f g ef eg = record { forth = forth-both; back = back-both }
 
     back-both : (bytes : List ℕ) (value : _ × _) (rest : List ℕ) → are_bytes bytes ≡ true → (both f g).field bytes ≡ Found value rest → (bytes ≡ (both f g).written value ++ rest) × ((both f g).is_value value ≡ true)
     back-both bytes value rest all is =
-        let one = found-both (f.field bytes) _ value rest is in
-        let two = found-both (g.field one.1) _ value rest one.3 in
+        let one = and_then-found (f.field bytes) _ value rest is in
+        let two = and_then-found (g.field one.1) _ value rest one.3 in
         let ends = found-same (one.0, two.0) value two.1 rest two.3 in
         let first = ef.back bytes one.0 one.1 all one.2 in
-        let behind : are_bytes one.1 ≡ true = are_bytes-behind (f.written one.0) one.1 (subst (λ (b : List ℕ). are_bytes b ≡ true) first.0 all) in
+        let behind : are_bytes one.1 ≡ true = are_bytes-behind bytes (f.written one.0) one.1 all first.0 in
         let second = eg.back one.1 two.0 two.1 behind two.2 in
         let bytes_are : bytes ≡ (f.written one.0 ++ g.written two.0) ++ two.1 = first.0 ∙ ap (λ b. f.written one.0 ++ b) second.0 ∙ sym (append_assoc (f.written one.0) (g.written two.0) two.1) in
         (bytes_are ∙ ap (λ end. (f.written one.0 ++ g.written two.0) ++ end) ends.1 ∙ ap (λ v. (both f g).written v ++ rest) ends.0,
@@ -80,7 +63,7 @@ renamed-exact to from f there here ef = record { forth = forth-renamed; back = b
 
     back-renamed : (bytes : List ℕ) (value : _) (rest : List ℕ) → are_bytes bytes ≡ true → (renamed to from f).field bytes ≡ Found value rest → (bytes ≡ f.written (from value) ++ rest) × (f.is_value (from value) ≡ true)
     back-renamed bytes value rest all is =
-        let one = found-both (f.field bytes) _ value rest is in
+        let one = and_then-found (f.field bytes) _ value rest is in
         let ends = found-same (to one.0) value one.1 rest one.3 in
         let old : one.0 ≡ from value = sym (here one.0) ∙ ap from ends.0 in
         let first = ef.back bytes one.0 one.1 all one.2 in
