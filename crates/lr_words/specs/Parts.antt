@@ -1,5 +1,5 @@
 -- Values of several parts, and whole spellings.
-use Rattle.std.proofs.Common.{◌≡◌, ◌<◌, ◌^◌, ℕ, Bool, true, false, ◌&&◌, List, [], ◌∷◌, ◌++◌, length, refl, sym, ◌∙◌, ap, subst, arith, length-append}
+use Rattle.std.proofs.Common.{◌≡◌, ◌<◌, ◌^◌, ℕ, true, ◌&&◌, List, [], ◌∷◌, ◌++◌, length, refl, sym, ◌∙◌, ap, arith, length-append}
 use Rattle.std.proofs.lemmas.List.{append_assoc, append-nil}
 use Rattle.std.proofs.lemmas.Bool.{and_parts}
 use Rattle.lr_base.specs.ByteLaws.{and_then-found, are_bytes-behind}
@@ -50,9 +50,10 @@ both-exact f g ef eg = record { forth = forth-both; back = back-both }
         let first = ef.back bytes one.0 one.1 all one.2 in
         let behind : are_bytes one.1 ≡ true = are_bytes-behind bytes (f.written one.0) one.1 all first.0 in
         let second = eg.back one.1 two.0 two.1 behind two.2 in
-        let bytes_are : bytes ≡ (f.written one.0 ++ g.written two.0) ++ two.1 = first.0 ∙ ap (λ b. f.written one.0 ++ b) second.0 ∙ sym (append_assoc (f.written one.0) (g.written two.0) two.1) in
-        (bytes_are ∙ ap (λ end. (f.written one.0 ++ g.written two.0) ++ end) ends.1 ∙ ap (λ v. (both f g).written v ++ rest) ends.0,
-         ap (both f g).is_value (sym ends.0) ∙ rw (first.1, second.1) refl)
+        let bytes_are : bytes ≡ (f.written one.0 ++ g.written two.0) ++ two.1 = first.0 ∙ ap (λ b. f.written one.0 ++ b) second.0 ∙ sym (append_assoc (f.written one.0) (g.written two.0) two.1) in (
+          bytes_are ∙ ap (λ end. (f.written one.0 ++ g.written two.0) ++ end) ends.1 ∙ ap (λ v. (both f g).written v ++ rest) ends.0,
+          ap (both f g).is_value (sym ends.0) ∙ rw (first.1, second.1) refl,
+        )
 
 -- an exact format stays exact under another name
 pub renamed-exact : {A B : Type 0} (to : A → B) (from : B → A) (f : Format A) → ((b : B) → to (from b) ≡ b) → ((a : A) → from (to a) ≡ a) → IsExactFormat f → IsExactFormat (renamed to from f)
