@@ -216,8 +216,9 @@ const ANSWERS: [(&str, &str); 4] = [
 ];
 
 // the last number 3; two users, ab with 2 and d with 1; two boxes, ab with x and x, and e with y
-const BYTES: &[u8; 56] =
-    b"\0\0\0\0\0\0\0\x03\0\0\0\x02\x02ab\0\0\0\0\0\0\0\x02\x01d\0\0\0\0\0\0\0\x01\0\0\0\x02\x02ab\0\0\0\x02\x01x\x01x\x01e\0\0\0\x01\x01y";
+const BYTES: &[u8; 56] = b"\0\0\0\0\0\0\0\x03\
+    \0\0\0\x02\x02ab\0\0\0\0\0\0\0\x02\x01d\0\0\0\0\0\0\0\x01\
+    \0\0\0\x02\x02ab\0\0\0\x02\x01x\x01x\x01e\0\0\0\x01\x01y";
 
 // where the field of each byte begins
 const FIELDS: [u64; 56] = [
