@@ -12,6 +12,6 @@ returns-clause-ok c =
     let users = table_bytes number_format c.self.inside.users in
     let boxes = table_bytes words_format c.self.inside.boxes in
     let joined =
-        ap (λ text. text ++ boxes) (c.in_ok-put.ensures.ok ∙ ap (λ text. text ++ users) c.in_ok-put_number_field.ensures)
-        ∙ append_assoc (out ++ last) users boxes ∙ append_assoc out last (users ++ boxes) in
+    ap (λ text. text ++ boxes) (c.in_ok-put.ensures.ok ∙ ap (λ text. text ++ users) c.in_ok-put_number_field.ensures)
+    ∙ append_assoc (out ++ last) users boxes ∙ append_assoc out last (users ++ boxes) in
     rw (← c.self.view_is, ← joined) c.put-2.ensures.ok
