@@ -7,12 +7,12 @@ ghost use Rattle.lr_causal.specs.State.{config_of, state_of};
 
 use crate::{Causal, late};
 use lr_base::lr_service::{Kind, Operation, Service};
-use svc_tally::{Tally, TallyOp};
 use lr_base::{Call, Cid, Config, Fresh, Gossip, LogAck, Rows, Spot, Stamp, Text};
 use lr_log::is_new;
 use std::alloc::Global;
 use std::process::Abort;
 use std::test::Fail;
+use svc_tally::{Tally, TallyOp};
 
 // One of the replicas of a tally that one client uses.
 fn replica(rt: &impl Abort, alloc: Global, replicas: u8, me: u8) -> Result<Causal<Tally>, Fail> {

@@ -1,11 +1,11 @@
 //! The calls of a log, with lists worked out by hand.
 use crate::{LOG_ROOM, Log};
 use lr_base::lr_service::Service;
-use svc_tally::{Tally, TallyOp};
 use lr_base::{Cid, LogAck, LogUpdate, Spot, Stamp};
 use std::alloc::Global;
 use std::process::Abort;
 use std::test::Fail;
+use svc_tally::{Tally, TallyOp};
 
 // Items by place and number, and the number of their client's call.
 const ITEMS: [(u8, u64, u64); 5] = [(1, 2, 7), (0, 9, 8), (1, 1, 9), (2, 1, 7), (0, 3, 7)];

@@ -1,7 +1,6 @@
 //! The lines of outcomes, of a whole step and of a header, worked by hand.
 use crate::{render_header, render_step};
 use lr_base::lr_service::Service;
-use svc_tally::{Tally, TallyOp};
 use lr_base::{
     Actor, Cid, Config, Event, NoMemory, Outcome, Refusal, Rows, Sent, Spot, Stamp, StateLine, Step,
 };
@@ -9,6 +8,7 @@ use lr_script::{Header, Name};
 use std::alloc::Global;
 use std::process::Abort;
 use std::test::Fail;
+use svc_tally::{Tally, TallyOp};
 
 const ONE_REPLICA: Config = Config {
     replicas: 1,
@@ -248,5 +248,24 @@ fn a_history_of_two_events(rt: HostRuntime) -> Result<(), Fail> {
         out.as_slice() == want.as_slice(),
         "another history was printed"
     );
+    Ok(())
+}
+
+#[test]
+fn headers_of_each_service(rt: HostRuntime) -> Result<(), Fail> {
+    let rows = [
+        (Name::Tally, "lazyrep 1 tally 2 2 10\n"),
+        (Name::Mail, "lazyrep 1 mail 2 2 10\n"),
+        (Name::Claims, "lazyrep 1 claims 2 2 10\n"),
+    ];
+    for (service, want) in rows {
+        let header = Header {
+            service,
+            config: TWO_REPLICAS,
+        };
+        let mut out = Rows::new(rt.alloc());
+        render_header(&header, &mut out)?;
+        assert!(rt; out.as_slice() == want.as_bytes(), "it isn't {want}");
+    }
     Ok(())
 }

@@ -298,12 +298,21 @@ fn good_scripts_are_printed_again(rt: HostRuntime) -> Result<(), Fail> {
     let mail_script = format!(in rt.alloc(); "lazyrep 1 mail 9 64 0\n{mail}")?;
     let claims_script = format!(in rt.alloc(); "lazyrep 1 claims 2 1 7\n{claims}")?;
     let again = printed::<Mail>(rt.alloc(), mail_script.as_str())?;
-    assert!(rt; again.as_slice() == mail.as_bytes(), "in the script of mail");
+    assert!(rt;
+        again.as_slice() == mail.as_bytes(),
+        "in the script of mail"
+    );
     let again = printed::<Claims>(rt.alloc(), claims_script.as_str())?;
-    assert!(rt; again.as_slice() == claims.as_bytes(), "in the script of claims");
+    assert!(rt;
+        again.as_slice() == claims.as_bytes(),
+        "in the script of claims"
+    );
     let other = printed::<Mail>(rt.alloc(), claims_script.as_str())?;
     assert!(rt; other.is_empty(), "claims aren't mail");
-    assert!(rt; !is_for::<Tally>(mail_script.as_bytes()), "mail isn't the tally");
+    assert!(rt;
+        !is_for::<Tally>(mail_script.as_bytes()),
+        "mail isn't the tally"
+    );
     Ok(())
 }
 
@@ -318,7 +327,10 @@ fn the_longest_input_is_read_as_lines(rt: HostRuntime) -> Result<(), Fail> {
             Ok(_) => assert!(rt; false, "taken"),
             Err(fault) => assert_fault(&rt, fault, line, cause, "spaces"),
         }
-        assert!(rt; is_for::<Tally>(bytes.as_slice()), "no header names another service");
+        assert!(rt;
+            is_for::<Tally>(bytes.as_slice()),
+            "no header names another service"
+        );
     }
     Ok(())
 }

@@ -6,11 +6,11 @@ ghost use Rattle.lr_base.specs.Rules.{same_cid};
 
 use crate::Value;
 use lr_base::lr_service::{Kind, Operation, Service};
-use svc_tally::{Tally, TallyOp};
 use lr_base::{Cid, Executed, Known, LogUpdate, NoMemory, Spot, Stamp, Text};
 use std::alloc::Global;
 use std::process::Abort;
 use std::test::Fail;
+use svc_tally::{Tally, TallyOp};
 
 // A table that looks through all its calls.
 #[derive(Drop)]

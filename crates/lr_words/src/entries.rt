@@ -16,17 +16,10 @@ use std::alloc::Global;
 use std::collections::BTreeMap;
 
 // Entries equal to these.
-pub(crate) fn copied<V: Stored>(
-    alloc: Global,
-    entries: &BTreeMap<Word, V>,
-) -> Result<BTreeMap<Word, V>, NoMemory>
+pub(crate) fn copied<V: Stored>(entries: &BTreeMap<Word, V>) -> Result<BTreeMap<Word, V>, NoMemory>
     ensures { IfOk result (λ copied. copied.entries ≡ entries.now.entries) }
 {
-    let mut copied = BTreeMap::new(alloc);
-    for (name, value) in entries {
-        let value = value.copy()?;
-        insert(&mut copied, name.copy(), value)?;
-    }
+    let copied = entries.clone()?;
     Ok(copied)
 }
 

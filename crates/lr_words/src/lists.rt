@@ -12,7 +12,7 @@ use crate::stored::{Stored, wrong};
 use crate::texts::put_decimal;
 use crate::word::Word;
 use lr_base::{BadWhat, FieldFault, NoMemory, Text, count_field, put_count_field};
-use std::alloc::Global;
+use std::alloc::{AllocError, Global};
 use std::marker::Model;
 
 /// Words in the order of their bytes, at least one, each as often as it was added.
@@ -101,13 +101,17 @@ fn put_behind_space(word: &Word, out: &mut Text) -> Result<(), NoMemory>
     out.extend(word.as_slice())
 }
 
-impl Stored for WordList {
-    ghost format = { words_format };
+impl Clone for WordList {
+    ghost is_clone = { λ list copied. copied ≡ list };
 
-    fn copy(&self) -> Result<WordList, NoMemory> {
-        let words = copied(*self.words.allocator(), &self.words)?;
+    fn clone(&self) -> Result<WordList, AllocError> {
+        let words = self.words.clone()?;
         Ok(WordList { words })
     }
+}
+
+impl Stored for WordList {
+    ghost format = { words_format };
 
     fn put(&self, out: &mut Text) -> Result<(), NoMemory> {
         put_count_field(self.words.len() as u64, out)?;
@@ -126,17 +130,8 @@ impl Stored for WordList {
     }
 
     ghost exact = { words-exact };
-}
 
-// Words equal to these.
-fn copied(alloc: Global, words: &[Word]) -> Result<Vec<Word>, NoMemory>
-    ensures { IfOk result (λ copied. copied.items ≡ words.now) }
-{
-    let mut copied = Vec::new(alloc);
-    for word in words {
-        copied.push(word.copy())?;
-    }
-    Ok(copied)
+    ghost cloned = { λ value copied same. same };
 }
 
 // Adds the bytes of each word behind `out`.

@@ -10,12 +10,8 @@ use lr_base::{BadWhat, FieldFault, NoMemory, Text, byte_field, number_field, put
 use std::alloc::Global;
 
 /// What stands in a table behind each name.
-pub trait Stored: Sized + Drop {
+pub trait Stored: Sized + Drop + Clone {
     ghost format: { Format Self };
-
-    /// A value equal to this one.
-    fn copy(&self) -> Result<Self, NoMemory>
-        ensures { IfOk result (λ copied. copied ≡ self.now) };
 
     /// Adds its bytes behind `out`.
     fn put(&self, out: &mut Text) -> Result<(), NoMemory>
@@ -27,14 +23,13 @@ pub trait Stored: Sized + Drop {
         ensures { Reads (format.field bytes.now) result };
 
     ghost exact: { IsExact format.is_value format.written format.field };
+
+    // A clone is equal to its source.
+    ghost cloned: { (value copied : Self) → Self.is_clone value copied → copied ≡ value };
 }
 
 impl Stored for u64 {
     ghost format = { number_format };
-
-    fn copy(&self) -> Result<u64, NoMemory> {
-        Ok(*self)
-    }
 
     fn put(&self, out: &mut Text) -> Result<(), NoMemory> {
         put_number_field(*self, out)
@@ -45,14 +40,12 @@ impl Stored for u64 {
     }
 
     ghost exact = { number_format-exact };
+
+    ghost cloned = { λ value copied same. same };
 }
 
 impl Stored for Word {
     ghost format = { word_format };
-
-    fn copy(&self) -> Result<Word, NoMemory> {
-        Ok(Word::copy(self))
-    }
 
     fn put(&self, out: &mut Text) -> Result<(), NoMemory> {
         out.push(self.size())?;
@@ -71,6 +64,8 @@ impl Stored for Word {
     }
 
     ghost exact = { word-exact };
+
+    ghost cloned = { λ value copied same. same };
 }
 
 // The word of this length that the bytes begin with, and the bytes behind it.

@@ -78,7 +78,7 @@ impl<V: Stored> Table<V> {
         ensures { IfOk result (λ copied. copied ≡ self.now) }
     {
         let alloc = self.alloc;
-        let entries = entries::copied(alloc, &self.entries)?;
+        let entries = entries::copied(&self.entries)?;
         Ok(Table { entries, alloc })
     }
 

@@ -86,7 +86,7 @@ abbrev pub AllFitting : {Op : Type 0} → (Op → Kind) → Config → List (Act
 AllFitting kind_of config [] = Unit {0}
 AllFitting kind_of config (act ∷ acts) = IsFitting kind_of config act × AllFitting kind_of config acts
 
--- an event names a client and a replica that there are
+-- an event names a client and replicas that there are, and gossip goes to another replica
 abbrev pub IsInRange : {Op : Type 0} → Config → Event Op → Type 0
 IsInRange config (Call client replica reading op) = (client < config.clients) × (replica < config.replicas)
 IsInRange config (Deliver message) = Unit {0}

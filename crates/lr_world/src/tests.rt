@@ -1,10 +1,12 @@
 //! A world, with a history worked out by hand.
 use crate::World;
-use lr_base::lr_service::Service;
-use svc_tally::{Tally, TallyOp};
-use lr_base::{Config, Event};
+use lr_base::lr_service::{Kind, Service};
+use lr_base::{Config, Event, Spot};
+use lr_graph::{ready_of, value_of};
 use std::alloc::Global;
+use std::process::Abort;
 use std::test::Fail;
+use svc_tally::{Tally, TallyOp};
 
 const TWO_REPLICAS: Config = Config {
     replicas: 2,
@@ -76,6 +78,82 @@ fn events_fit_that_name_who_there_is(rt: HostRuntime) -> Result<(), Fail> {
     ];
     for (at, (event, fits)) in events.into_iter().enumerate() {
         assert_eq!(rt; world.fits(&event), fits, "event {at}");
+    }
+    Ok(())
+}
+
+// The first events of a run of two clients, in which an update waits at one replica for one that the other accepted.
+fn two_clients(rt: &impl Abort, alloc: Global, count: usize) -> Result<World<Tally>, Fail> {
+    let config = Config {
+        replicas: 2,
+        clients: 2,
+        delta: 10,
+    };
+    let mut world = World::<Tally>::new(alloc, config)?;
+    let other = Event::Call {
+        client: 1,
+        replica: 1,
+        reading: 1,
+        op: Tally::read_op(alloc, b"add x 4")?,
+    };
+    let events = [
+        call(alloc, 0, 1, "add x 1")?,
+        Event::Deliver { message: 1 },
+        Event::Deliver { message: 2 },
+        call(alloc, 1, 2, "add x 2")?,
+        Event::Deliver { message: 3 },
+        other,
+        Event::Deliver { message: 5 },
+        Event::Gossip { from: 0, to: 1 },
+        Event::Deliver { message: 7 },
+    ];
+    for (at, event) in events.into_iter().enumerate() {
+        if at == count {
+            return Ok(world);
+        }
+        assert!(rt; world.fits(&event), "event {at}");
+        let _lines = world.step(&event)?;
+    }
+    Ok(world)
+}
+
+fn check_spots(rt: &impl Abort, found: &[Spot], want: &[(u8, u64)]) {
+    assert_eq!(rt; found.len(), want.len());
+    for (spot, (place, number)) in found.iter().zip(want) {
+        assert_eq!(rt; spot.place, *place);
+        assert_eq!(rt; spot.number, *number);
+    }
+}
+
+fn check_counter(rt: &impl Abort, alloc: Global, value: &Tally, want: &str) -> Result<(), Fail> {
+    let op = Tally::read_op(alloc, b"read x")?;
+    match Tally::kind(&op) {
+        Kind::Query => {
+            let answer = value.read(&op)?;
+            assert!(rt; answer.as_slice() == want.as_bytes(), "it isn't {want}");
+        }
+        Kind::Causal | Kind::Forced | Kind::Immediate => assert!(rt; false, "no query"),
+    }
+    Ok(())
+}
+
+#[test]
+fn what_is_ready_after_a_history(rt: HostRuntime) -> Result<(), Fail> {
+    // (how many events, replica, its ready spots, its counter)
+    let rows: [(usize, u8, &[(u8, u64)], &str); 4] = [
+        (9, 1, &[(0, 1), (1, 1), (1, 2)], "7"),
+        (9, 0, &[(0, 1)], "1"),
+        (7, 1, &[(1, 2)], "4"),
+        (0, 0, &[], "0"),
+    ];
+    for (count, replica, spots, counter) in rows {
+        let world = two_clients(&rt, rt.alloc(), count)?;
+        let config = world.config();
+        let history = world.history().as_slice();
+        let ready = ready_of::<Tally>(rt.alloc(), config, history, replica)?;
+        check_spots(&rt, ready.as_slice(), spots);
+        let value = value_of::<Tally>(rt.alloc(), config, history, replica)?;
+        check_counter(&rt, rt.alloc(), &value, counter)?;
     }
     Ok(())
 }

@@ -87,7 +87,8 @@ impl<S: Service> World<S> {
         }
     }
 
-    /// Makes one event, and answers what is printed of it. Where there is no memory, nothing has happened.
+    /// Makes one event, and answers what is printed of it. Where there is no memory, nothing has happened. It is asked for
+    /// events that fit; an operation that is forced or immediate has no rules yet.
     pub fn step(&mut self, event: &Event<S::Op>) -> Result<Rows<Outcome>, NoMemory>
         requires fits { IsInRange self.old.config event.now }
         requires plain { CallsPlain S.meaning event.now }

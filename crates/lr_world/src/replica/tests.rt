@@ -5,11 +5,11 @@ ghost use Rattle.lr_world.specs.Shapes.{IsShaped, is_actor};
 use crate::acts::Acts;
 use crate::replica::Replica;
 use lr_base::lr_service::{Kind, Operation, Service};
-use svc_tally::{Tally, TallyOp};
 use lr_base::{Act, Actor, Call, Cid, Config, Message, NoMemory, Outcome, Stamp};
 use std::alloc::Global;
 use std::process::Abort;
 use std::test::Fail;
+use svc_tally::{Tally, TallyOp};
 
 const THREE_REPLICAS: Config = Config {
     replicas: 3,
