@@ -16,6 +16,14 @@ def covers(stamp, label):
     return all(most >= part for most, part in zip(stamp, label))
 
 
+def operation(service, draws, name, updates):
+    """An update of a name, or a query of it."""
+    if not updates:
+        return f"read {name}"
+    drawn = draws.randrange(1000)
+    return f"add {name} {drawn}" if service == "tally" else f"send {name} w{drawn}"
+
+
 def join(one, other):
     return [max(a, b) for a, b in zip(one, other)]
 
@@ -60,9 +68,10 @@ class Replica:
 
 
 class Script:
-    def __init__(self, events, replicas):
+    def __init__(self, events, replicas, service):
         self.draws = random.Random(SEED)
-        self.lines = [f"lazyrep 1 tally {replicas} {CLIENTS} 1000"]
+        self.service = service
+        self.lines = [f"lazyrep 1 {service} {replicas} {CLIENTS} 1000"]
         self.replicas = [Replica(replicas) for _ in range(replicas)]
         self.labels = [[0] * replicas for _ in range(CLIENTS)]
         # For each client the event that carries its call on: a message to deliver and what it does then.
@@ -124,7 +133,7 @@ class Script:
         name = f"n{self.draws.randrange(COUNTERS)}"
         adds = self.updates < UPDATES and self.draws.randrange(2) == 0
         self.updates += adds
-        op = f"add {name} {self.draws.randrange(1000)}" if adds else f"read {name}"
+        op = operation(self.service, self.draws, name, adds)
         self.lines.append(f"call {client} {index} {len(self.lines)} {op}")
         self.sent += 1
         self.waiting[client] = ("update" if adds else "query", self.sent, index)
@@ -144,5 +153,5 @@ class Script:
         self.end_step(index)
 
 
-def make_script(events, replicas):
-    return "".join(line + "\n" for line in Script(events, replicas).lines)
+def make_script(events, replicas, service):
+    return "".join(line + "\n" for line in Script(events, replicas, service).lines)
