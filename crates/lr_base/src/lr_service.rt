@@ -2,7 +2,7 @@
 ghost use Rattle.std.specs.Prelude.{ℕ, ◌≡◌, ◌≢◌, ◌++◌, true, IfOk, OnOk, OnErr, IsErrOf};
 ghost use Rattle.lr_base.specs.Bytes.{Decodes};
 ghost use Rattle.lr_base.specs.Kinds.{IsQuery, IsUpdate};
-ghost use Rattle.lr_base.specs.Meaning.{Meaning, Lawful};
+ghost use Rattle.lr_base.specs.Meaning.{Meaning, Lawful, is_printable};
 
 use crate::bytes::GetFault;
 pub use crate::orders::agreeing_orders_give_one_value;
@@ -72,7 +72,8 @@ pub trait Service: Sized + Drop {
     /// What a query answers: printable bytes.
     fn read(&self, op: &Self::Op) -> Result<Text, NoMemory>
         requires { IsQuery (Self.Op.kind_of op.now) }
-        ensures { IfOk result (λ answer. answer ≡ meaning.read self.now op.now) };
+        ensures answer { IfOk result (λ answer. answer ≡ meaning.read self.now op.now) }
+        ensures printable { IfOk result (λ answer. is_printable answer ≡ true) };
 
     /// The operation that is written so.
     fn read_op(alloc: Global, text: &[u8]) -> Result<Self::Op, OpFault>
@@ -82,7 +83,8 @@ pub trait Service: Sized + Drop {
 
     /// Adds the operation's one text behind `out`.
     fn print_op(op: &Self::Op, out: &mut Text) -> Result<(), NoMemory>
-        ensures { OnOk result (out.new ≡ out.old ++ meaning.text op.now) };
+        ensures ok { OnOk result (out.new ≡ out.old ++ meaning.text op.now) }
+        ensures real { OnOk result (meaning.is_op op.now ≡ true) };
 
     /// A value equal to this one.
     fn copy(&self) -> Result<Self, NoMemory>

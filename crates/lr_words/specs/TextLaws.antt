@@ -1,6 +1,6 @@
 -- What operations' texts and answers are made of is printable and short.
 use Rattle.std.proofs.Common.{◌≡◌, ◌≢◌, ◌<◌, ◌≤◌, ◌+◌, ◌/◌, ◌%◌, ◌^◌, ◌==◌, ℕ, zero, suc, Bool, true, false, ◌&&◌, nat_le, nat_lt, cond, List, [], ◌∷◌, ◌++◌, get_or, length, length-append, refl, sym, ◌∙◌, ap, arith, le-leb, leb-true}
-use Rattle.std.specs.Prelude.{flat_map}
+use Rattle.std.specs.Prelude.{flat_map, OnOk, Result, Ok, Err}
 use Rattle.std.specs.Fmt.{decimal, digits, digits_onto, digit_glyph}
 use Rattle.std.specs.List.{list_all}
 use Rattle.std.proofs.Math.Nat.{mod-lt}
@@ -107,3 +107,13 @@ pub apart-at : (a b : List ℕ) (place : ℕ) → (get_or a place 0 == get_or b 
 apart-at a b place differ = λ same.
     let no : false ≡ true = sym differ ∙ eq-eqb (get_or a place 0) (get_or b place 0) (ap (λ text. get_or text place 0) same) in
     cc
+
+-- what was written is printable, where what it is made of was found to be words
+pub word-written : {T E : Type 0} (result : Result T E) (word : List ℕ) → OnOk result (is_word word ≡ true) → OnOk result (is_printable word ≡ true)
+word-written (Ok done) word is = word-printable word is
+word-written (Err fault) word is = tt
+
+-- and so behind a front and a space
+pub words-written : {T E : Type 0} (result : Result T E) (front : List ℕ) (words : List (List ℕ)) → is_printable front ≡ true → OnOk result (list_all is_word words ≡ true) → OnOk result (is_printable (front ++ 32 ∷ words_text words) ≡ true)
+words-written (Ok done) front words first all = append-printable front (32 ∷ words_text words) first (words_text-printable words all)
+words-written (Err fault) front words first all = tt

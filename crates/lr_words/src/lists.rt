@@ -64,7 +64,8 @@ impl WordList {
 
     /// Adds the count of the words behind `out`, and then each with a space before it.
     pub fn put_text(&self, out: &mut Text) -> Result<(), NoMemory>
-        ensures { OnOk result (out.new ≡ out.old ++ words_text self.now) }
+        ensures ok { OnOk result (out.new ≡ out.old ++ words_text self.now) }
+        ensures real { OnOk result (list_all is_word self.now ≡ true) }
     {
         put_decimal(self.words.len() as u64, out)?;
         put_spaced(&self.words, out)
@@ -86,7 +87,8 @@ fn place_of(words: &[Word], word: &Word) -> usize
 
 // Adds each word behind `out`, with a space before it.
 fn put_spaced(words: &[Word], out: &mut Text) -> Result<(), NoMemory>
-    ensures { OnOk result (out.new ≡ out.old ++ flat_map (λ word. 32 ∷ word) words.now) }
+    ensures ok { OnOk result (out.new ≡ out.old ++ flat_map (λ word. 32 ∷ word) words.now) }
+    ensures real { OnOk result (list_all is_word words.now ≡ true) }
 {
     for word in words {
         put_behind_space(word, out)?;
@@ -95,7 +97,8 @@ fn put_spaced(words: &[Word], out: &mut Text) -> Result<(), NoMemory>
 }
 
 fn put_behind_space(word: &Word, out: &mut Text) -> Result<(), NoMemory>
-    ensures { OnOk result (out.new ≡ out.old ++ 32 ∷ word.now) }
+    ensures ok { OnOk result (out.new ≡ out.old ++ 32 ∷ word.now) }
+    ensures real { OnOk result (is_word word.now ≡ true) }
 {
     out.push(b' ')?;
     out.extend(word.as_slice())

@@ -1,8 +1,10 @@
 //! Tables: values by word.
 ghost use Rattle.std.specs.Prelude.{◌≡◌, ◌++◌, option_copied, true, IfOk, OnOk, OnErr};
 ghost use Rattle.std.specs.FinMap as map;
+ghost use Rattle.std.specs.List.{list_all};
 ghost use Rattle.lr_base.specs.Bytes.{Reads};
 ghost use Rattle.lr_words.specs.Tables.{is_table, table_bytes, table_field};
+ghost use Rattle.lr_words.specs.Word.{is_word};
 ghost use Rattle.lr_words.specs.Formats.{with_word, words_of, words_text};
 
 use crate::entries;
@@ -28,6 +30,7 @@ impl<V> Model for Table<V> {
     ghost use Rattle.std.specs.Cmp.Lexicographic.{slice_cmp};
     ghost use Rattle.std.specs.Coded.{coded_ℕ, coded_list};
     ghost use Rattle.std.specs.FinMap as map;
+    ghost use Rattle.std.specs.List.{list_all};
 
     ghost Value = { map.FinMap (slice_cmp nat_cmp) V };
 
@@ -120,7 +123,8 @@ impl Table<WordList> {
 
     /// Adds the count of a name's words behind `out`, and then each with a space before it.
     pub fn put_words(&self, name: &Word, out: &mut Text) -> Result<(), NoMemory>
-        ensures { OnOk result (out.new ≡ out.old ++ words_text (words_of self.now name.now)) }
+        ensures ok { OnOk result (out.new ≡ out.old ++ words_text (words_of self.now name.now)) }
+        ensures real { OnOk result (list_all is_word (words_of self.now name.now) ≡ true) }
     {
         match self.get(name) {
             Some(words) => words.put_text(out),

@@ -29,11 +29,20 @@ pub fn read_two_words(text: &[u8]) -> Option<(Word, Word)>
 
 /// Adds two words with a space between them behind `out`.
 pub fn put_two_words(first: &Word, second: &Word, out: &mut Text) -> Result<(), NoMemory>
-    ensures { OnOk result (out.new ≡ out.old ++ (first.now ++ (codes " " ++ second.now))) }
+    ensures ok { OnOk result (out.new ≡ out.old ++ (first.now ++ (codes " " ++ second.now))) }
+    ensures real { OnOk result ((is_word first.now && is_word second.now) ≡ true) }
 {
-    out.extend(first.as_slice())?;
+    put_word(first, out)?;
     out.extend(b" ")?;
-    out.extend(second.as_slice())
+    put_word(second, out)
+}
+
+/// Adds a word behind `out`.
+pub fn put_word(word: &Word, out: &mut Text) -> Result<(), NoMemory>
+    ensures ok { OnOk result (out.new ≡ out.old ++ word.now) }
+    ensures real { OnOk result (is_word word.now ≡ true) }
+{
+    out.extend(word.as_slice())
 }
 
 /// Adds the number in decimal behind `out`.

@@ -14,7 +14,7 @@ const TWO_REPLICAS: Config = Config {
     delta: 10,
 };
 
-// The only client calls through a replica.
+// The first client calls through a replica.
 fn call(alloc: Global, replica: u8, reading: u64, op: &str) -> Result<Event<TallyOp>, Fail> {
     Ok(Event::Call {
         client: 0,
@@ -82,6 +82,16 @@ fn events_fit_that_name_who_there_is(rt: HostRuntime) -> Result<(), Fail> {
     Ok(())
 }
 
+// The second client calls through the second replica.
+fn other_call(alloc: Global, reading: u64, op: &str) -> Result<Event<TallyOp>, Fail> {
+    Ok(Event::Call {
+        client: 1,
+        replica: 1,
+        reading,
+        op: Tally::read_op(alloc, op.as_bytes())?,
+    })
+}
+
 // The first events of a run of two clients, in which an update waits at one replica for one that the other accepted.
 fn two_clients(rt: &impl Abort, alloc: Global, count: usize) -> Result<World<Tally>, Fail> {
     let config = Config {
@@ -90,22 +100,22 @@ fn two_clients(rt: &impl Abort, alloc: Global, count: usize) -> Result<World<Tal
         delta: 10,
     };
     let mut world = World::<Tally>::new(alloc, config)?;
-    let other = Event::Call {
-        client: 1,
-        replica: 1,
-        reading: 1,
-        op: Tally::read_op(alloc, b"add x 4")?,
-    };
     let events = [
         call(alloc, 0, 1, "add x 1")?,
         Event::Deliver { message: 1 },
         Event::Deliver { message: 2 },
         call(alloc, 1, 2, "add x 2")?,
         Event::Deliver { message: 3 },
-        other,
+        other_call(alloc, 1, "add x 4")?,
         Event::Deliver { message: 5 },
-        Event::Gossip { from: 0, to: 1 },
+        Event::Deliver { message: 6 },
+        other_call(alloc, 2, "read x")?,
         Event::Deliver { message: 7 },
+        Event::Deliver { message: 4 },
+        call(alloc, 1, 3, "read x")?,
+        Event::Deliver { message: 9 },
+        Event::Gossip { from: 0, to: 1 },
+        Event::Deliver { message: 10 },
     ];
     for (at, event) in events.into_iter().enumerate() {
         if at == count {
@@ -141,9 +151,9 @@ fn check_counter(rt: &impl Abort, alloc: Global, value: &Tally, want: &str) -> R
 fn what_is_ready_after_a_history(rt: HostRuntime) -> Result<(), Fail> {
     // (how many events, replica, its ready spots, its counter)
     let rows: [(usize, u8, &[(u8, u64)], &str); 4] = [
-        (9, 1, &[(0, 1), (1, 1), (1, 2)], "7"),
-        (9, 0, &[(0, 1)], "1"),
-        (7, 1, &[(1, 2)], "4"),
+        (15, 1, &[(0, 1), (1, 1), (1, 2)], "7"),
+        (15, 0, &[(0, 1)], "1"),
+        (14, 1, &[(1, 2)], "4"),
         (0, 0, &[], "0"),
     ];
     for (count, replica, spots, counter) in rows {

@@ -7,7 +7,7 @@ ghost use Rattle.svc_claims.specs.Claims.{claims_kind, claims_is_op, claims_text
 use crate::op::ClaimsOp;
 use lr_base::lr_service::Operation;
 use lr_base::{NoMemory, Text};
-use lr_words::{Word, behind, put_two_words, read_two_words};
+use lr_words::{Word, behind, put_two_words, put_word, read_two_words};
 
 impl Operation for ClaimsOp {
     ghost kind_of = { claims_kind };
@@ -86,7 +86,8 @@ fn who_of(rest: &[u8]) -> Option<ClaimsOp>
 
 // Adds the operation's text behind `out`.
 pub(crate) fn put_op(op: &ClaimsOp, out: &mut Text) -> Result<(), NoMemory>
-    ensures { OnOk result (out.new ≡ out.old ++ claims_text op.now) }
+    ensures ok { OnOk result (out.new ≡ out.old ++ claims_text op.now) }
+    ensures real { OnOk result (claims_is_op op.now ≡ true) }
 {
     match op {
         ClaimsOp::Note { name, word } => {
@@ -99,11 +100,11 @@ pub(crate) fn put_op(op: &ClaimsOp, out: &mut Text) -> Result<(), NoMemory>
         }
         ClaimsOp::Clear { name } => {
             out.extend(b"clear ")?;
-            out.extend(name.as_slice())
+            put_word(name, out)
         }
         ClaimsOp::Who { name } => {
             out.extend(b"who ")?;
-            out.extend(name.as_slice())
+            put_word(name, out)
         }
     }
 }

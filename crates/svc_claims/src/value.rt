@@ -2,6 +2,7 @@
 ghost use Rattle.std.specs.Prelude.{◌≡◌, ◌++◌, true, OnOk, OnErr, unwrap_or, codes};
 ghost use Rattle.std.specs.FinMap as map;
 ghost use Rattle.lr_base.specs.Bytes.{Reads};
+ghost use Rattle.lr_base.specs.Meaning.{is_printable};
 ghost use Rattle.svc_claims.specs.declared.op.ClaimsOp.TheVariants as operation;
 ghost use Rattle.svc_claims.specs.Claims.{claims_apply, claims_format, claims_read};
 
@@ -9,7 +10,7 @@ use crate::op::ClaimsOp;
 use crate::texts::{op_of, put_op};
 use lr_base::lr_service::{Kind, OpFault, Service};
 use lr_base::{FieldFault, GetFault, NoMemory, Rows, Text, decoded};
-use lr_words::{Table, Word, WordList};
+use lr_words::{Table, Word, WordList, put_word};
 use std::alloc::Global;
 use std::marker::Model;
 
@@ -59,17 +60,19 @@ impl Claims {
 
     // Adds the owner's name, or a dash, behind `out`.
     fn put_owner(&self, name: &Word, out: &mut Text) -> Result<(), NoMemory>
-        ensures { OnOk result (out.new ≡ out.old ++ unwrap_or (map.get self.now.owners name.now) (codes "-")) }
+        ensures ok { OnOk result (out.new ≡ out.old ++ unwrap_or (map.get self.now.owners name.now) (codes "-")) }
+        ensures printable { OnOk result (is_printable (unwrap_or (map.get self.now.owners name.now) (codes "-")) ≡ true) }
     {
         match self.owners.get(name) {
-            Some(owner) => out.extend(owner.as_slice()),
+            Some(owner) => put_word(owner, out),
             None => out.extend(b"-"),
         }
     }
 
     // Adds the owner and the notes of the name behind `out`.
     fn put_answer(&self, name: &Word, out: &mut Text) -> Result<(), NoMemory>
-        ensures { OnOk result (out.new ≡ out.old ++ claims_read self.now (operation.Who name.now)) }
+        ensures ok { OnOk result (out.new ≡ out.old ++ claims_read self.now (operation.Who name.now)) }
+        ensures printable { OnOk result (is_printable (claims_read self.now (operation.Who name.now)) ≡ true) }
     {
         self.put_owner(name, out)?;
         out.extend(b" ")?;

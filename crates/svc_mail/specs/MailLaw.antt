@@ -120,7 +120,7 @@ stays-of v (Delete user) value is =
 stays-of v (Read user) value is = value
 
 -- a user's number, or a dash, is printable
-number-printable : (found : Option ℕ) → is_printable (number_text found) ≡ true
+pub number-printable : (found : Option ℕ) → is_printable (number_text found) ≡ true
 number-printable None = refl
 number-printable (Some number) = decimal-printable number
 

@@ -7,7 +7,7 @@ ghost use Rattle.svc_mail.specs.Mail.{mail_kind, mail_is_op, mail_text};
 use crate::op::MailOp;
 use lr_base::lr_service::Operation;
 use lr_base::{NoMemory, Text};
-use lr_words::{Word, behind, put_two_words, read_two_words};
+use lr_words::{Word, behind, put_two_words, put_word, read_two_words};
 
 impl Operation for MailOp {
     ghost kind_of = { mail_kind };
@@ -82,7 +82,8 @@ fn read_of(rest: &[u8]) -> Option<MailOp>
 
 // Adds the operation's text behind `out`.
 pub(crate) fn put_op(op: &MailOp, out: &mut Text) -> Result<(), NoMemory>
-    ensures { OnOk result (out.new ≡ out.old ++ mail_text op.now) }
+    ensures ok { OnOk result (out.new ≡ out.old ++ mail_text op.now) }
+    ensures real { OnOk result (mail_is_op op.now ≡ true) }
 {
     match op {
         MailOp::Send { user, word } => {
@@ -91,15 +92,15 @@ pub(crate) fn put_op(op: &MailOp, out: &mut Text) -> Result<(), NoMemory>
         }
         MailOp::Add { user } => {
             out.extend(b"add ")?;
-            out.extend(user.as_slice())
+            put_word(user, out)
         }
         MailOp::Delete { user } => {
             out.extend(b"delete ")?;
-            out.extend(user.as_slice())
+            put_word(user, out)
         }
         MailOp::Read { user } => {
             out.extend(b"read ")?;
-            out.extend(user.as_slice())
+            put_word(user, out)
         }
     }
 }

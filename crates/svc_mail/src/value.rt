@@ -2,6 +2,7 @@
 ghost use Rattle.std.specs.Prelude.{◌≡◌, ◌++◌, true, OnOk, OnErr};
 ghost use Rattle.std.specs.FinMap as map;
 ghost use Rattle.lr_base.specs.Bytes.{Reads};
+ghost use Rattle.lr_base.specs.Meaning.{is_printable};
 ghost use Rattle.svc_mail.specs.declared.op.MailOp.TheVariants as operation;
 ghost use Rattle.svc_mail.specs.Mail.{mail_apply, mail_format, mail_read, number_text};
 
@@ -78,7 +79,8 @@ impl Mail {
 
     // Adds the number and the words of the user behind `out`.
     fn put_answer(&self, user: &Word, out: &mut Text) -> Result<(), NoMemory>
-        ensures { OnOk result (out.new ≡ out.old ++ mail_read self.now (operation.Read user.now)) }
+        ensures ok { OnOk result (out.new ≡ out.old ++ mail_read self.now (operation.Read user.now)) }
+        ensures printable { OnOk result (is_printable (mail_read self.now (operation.Read user.now)) ≡ true) }
     {
         self.put_user(user, out)?;
         out.extend(b" ")?;

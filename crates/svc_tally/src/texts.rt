@@ -8,7 +8,7 @@ ghost use Rattle.svc_tally.specs.Tally.{tally_kind, tally_is_op, tally_text};
 use crate::op::TallyOp;
 use lr_base::lr_service::Operation;
 use lr_base::{NoMemory, Text, read_number};
-use lr_words::{Word, put_decimal};
+use lr_words::{Word, put_decimal, put_word};
 
 impl Operation for TallyOp {
     ghost kind_of = { tally_kind };
@@ -58,18 +58,19 @@ fn read_of(rest: &[u8]) -> Option<TallyOp>
 
 // Adds the operation's text behind `out`.
 pub(crate) fn put_op(op: &TallyOp, out: &mut Text) -> Result<(), NoMemory>
-    ensures { OnOk result (out.new ≡ out.old ++ tally_text op.now) }
+    ensures ok { OnOk result (out.new ≡ out.old ++ tally_text op.now) }
+    ensures real { OnOk result (tally_is_op op.now ≡ true) }
 {
     match op {
         TallyOp::Add { name, amount } => {
             out.extend(b"add ")?;
-            out.extend(name.as_slice())?;
+            put_word(name, out)?;
             out.extend(b" ")?;
             put_decimal(*amount, out)
         }
         TallyOp::Read { name } => {
             out.extend(b"read ")?;
-            out.extend(name.as_slice())
+            put_word(name, out)
         }
     }
 }
