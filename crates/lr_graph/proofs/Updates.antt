@@ -1,5 +1,5 @@
--- In a legal history each accepted operation is an update's.
-use Rattle.std.proofs.Common.{◌≡◌, ◌^◌, ℕ, suc, Bool, true, false, cond, ◌==◌, List, [], ◌∷◌, ◌++◌, Option, Some, None, map, refl, sym, ap, ◌∙◌, subst, eq-eqb}
+-- What holds of each update that a legal history calls holds of each that it accepts; and what it accepts are updates.
+use Rattle.std.proofs.Common.{◌≡◌, ◌^◌, ℕ, suc, Bool, true, false, cond, ◌==◌, List, [], ◌∷◌, Option, Some, None, map, refl, sym, ap, ◌∙◌, subst, eq-eqb}
 use Rattle.std.specs.List.{find}
 use Rattle.lr_base.specs.Kinds.{IsUpdate, is_query}
 use Rattle.lr_base.specs.Meaning.{Meaning}
@@ -20,52 +20,57 @@ use Rattle.lr_base.specs.declared.names.Spot.{Spot}
 use Rattle.lr_graph.specs.After.{accept_read, after, carried, copy_of, delivered, event_read, front_called, got_read, hold_read, line_read, lines_read, next_call, step_ended, stepping, take_read}
 use Rattle.lr_graph.specs.Central.{facts_after}
 use Rattle.lr_graph.specs.Closed.{Each}
-use Rattle.lr_graph.specs.Graph.{Acceptance, Carried, Facts, FrontFacts, LabelledCall, SentMessage, UpdateCopy, QueryCopy, DoneReply, AnswerReply, GossipOf, Blank, first_facts, is_within}
+use Rattle.lr_graph.specs.Graph.{Acceptance, Carried, Facts, FrontFacts, LabelledCall, SentMessage, UpdateCopy, QueryCopy, DoneReply, AnswerReply, GossipOf, Blank, first_facts, is_within, ready, value}
 use Rattle.lr_graph.specs.Legal.{IsLegal, LegalFrom, accept_lines, answer_line, answers, answers_at, call_lines, delivery_lines, message_lines, outcomes_of, own_lines, query_lines, reply_line, update_lines}
 use Rattle.lr_graph.specs.Sets.{put_at}
 use Rattle.lr_graph.specs.Told.{acceptance_of, bare, told}
 use Rattle.lr_graph.specs.declared.facts.items.AcceptedUpdate.{AcceptedUpdate}
 use Rattle.lr_graph.specs.declared.facts.items.Gathered.{Gathered}
-use Rattle.lr_graph.proofs.Members.{each-append}
+use Rattle.lr_graph.proofs.Members.{each-from}
+use Rattle.lr_graph.proofs.Stepping.{lines_read-append}
 
--- a line that doesn't send a copy of an update
-abbrev IsOther : Outcome → Type 0
-IsOther (Send number from to (Update cid time)) = ⊥
-IsOther (Send number from to (Query cid)) = Unit {0}
-IsOther (Send number from to (Done cid spot)) = Unit {0}
-IsOther (Send number from to (Answer cid text)) = Unit {0}
-IsOther (Send number from to Gossip) = Unit {0}
-IsOther (Accept spot cid) = Unit {0}
-IsOther (Hold cid) = Unit {0}
-IsOther (Take count) = Unit {0}
-IsOther (Got cid) = Unit {0}
-IsOther (Stale cid) = Unit {0}
-IsOther (NoMessage message) = Unit {0}
-IsOther (Refuse why) = Unit {0}
-IsOther (State line) = Unit {0}
+-- a line that sends no copy of an update, and no answer but one of which A holds
+abbrev pub IsOther : (List ℕ → Type 0) → Outcome → Type 0
+IsOther A (Send number from to (Update cid time)) = ⊥
+IsOther A (Send number from to (Query cid)) = Unit {0}
+IsOther A (Send number from to (Done cid spot)) = Unit {0}
+IsOther A (Send number from to (Answer cid text)) = A text
+IsOther A (Send number from to Gossip) = Unit {0}
+IsOther A (Accept spot cid) = Unit {0}
+IsOther A (Hold cid) = Unit {0}
+IsOther A (Take count) = Unit {0}
+IsOther A (Got cid) = Unit {0}
+IsOther A (Stale cid) = Unit {0}
+IsOther A (NoMessage message) = Unit {0}
+IsOther A (Refuse why) = Unit {0}
+IsOther A (State line) = Unit {0}
+
+-- what holds of every text
+abbrev IsAny : List ℕ → Type 0
+IsAny text = Unit {0}
 
 put_at-same : {X : Type 0} (i : ℕ) (x : X) (table : ℕ → X) → put_at i x table i ≡ x
 put_at-same i x table = ap (λ t. cond t x (table i)) (eq-eqb i i refl)
 
-module _ {Value Op : Type 0} (m : Meaning Value Op) where
-  -- a copy of an update carries an update's operation
-  abbrev IsFine : Carried Op → Type 0
-  IsFine (UpdateCopy call time) = IsUpdate (m.kind call.op)
+module _ {Op : Type 0} (P : Op → Type 0) where
+  -- P holds of the operation that a copy of an update carries
+  abbrev pub IsFine : Carried Op → Type 0
+  IsFine (UpdateCopy call time) = P call.op
   IsFine (QueryCopy call) = Unit {0}
   IsFine (DoneReply cid names) = Unit {0}
   IsFine (AnswerReply cid names) = Unit {0}
   IsFine (GossipOf names) = Unit {0}
   IsFine Blank = Unit {0}
 
-  -- the message that came, if one did, carries no other operation as an update's
-  abbrev CameFine : Option (SentMessage Op) → Type 0
+  -- and so of the message that came, if one did
+  abbrev pub CameFine : Option (SentMessage Op) → Type 0
   CameFine None = Unit {0}
   CameFine (Some x) = IsFine x.what
 
-  -- each operation that was accepted, or sent as an update's, is an update's
-  record HasUpdates (w : Facts Op) : Type 0 where
-    accepted : Each (λ a. IsUpdate (m.kind a.op)) w.accepted
-    messages : Each (λ x. IsFine x.what) w.messages
+  -- P holds of each operation that was accepted, or sent as an update's
+  pub record Holds (w : Facts Op) : Type 0 where
+    pub accepted : Each (λ a. P a.op) w.accepted
+    pub messages : Each (λ x. IsFine x.what) w.messages
 
   found-fine : (number : ℕ) (messages : List (SentMessage Op)) → Each (λ x. IsFine x.what) messages → CameFine (find (λ x. x.number == number) messages)
   found-fine number [] each = tt
@@ -81,10 +86,10 @@ module _ {Value Op : Type 0} (m : Meaning Value Op) where
 
   -- ---- lines
 
-  sent-fine : (w : Facts Op) (number : ℕ) (from to : Actor) (what : Sent) → IsFine (carried w from what) → HasUpdates w → (x : Option (SentMessage Op)) → HasUpdates (line_read x w (Send number from to what))
+  sent-fine : (w : Facts Op) (number : ℕ) (from to : Actor) (what : Sent) → IsFine (carried w from what) → Holds w → (x : Option (SentMessage Op)) → Holds (line_read x w (Send number from to what))
   sent-fine w number from to what fine h x = record { accepted = h.accepted; messages = (fine, h.messages) }
 
-  accept-fine : (w : Facts Op) (spot : Spot) (to : Actor) (what : Carried Op) → IsFine what → HasUpdates w → HasUpdates (accept_read w spot to what)
+  accept-fine : (w : Facts Op) (spot : Spot) (to : Actor) (what : Carried Op) → IsFine what → Holds w → Holds (accept_read w spot to what)
   accept-fine w spot (Client c) what fine h = h
   accept-fine w spot (Replica i) (UpdateCopy call time) fine h = record { accepted = (fine, h.accepted); messages = h.messages }
   accept-fine w spot (Replica i) (QueryCopy call) fine h = h
@@ -93,7 +98,7 @@ module _ {Value Op : Type 0} (m : Meaning Value Op) where
   accept-fine w spot (Replica i) (GossipOf names) fine h = h
   accept-fine w spot (Replica i) Blank fine h = h
 
-  hold-fine : (w : Facts Op) (to : Actor) (what : Carried Op) → HasUpdates w → HasUpdates (hold_read w to what)
+  hold-fine : (w : Facts Op) (to : Actor) (what : Carried Op) → Holds w → Holds (hold_read w to what)
   hold-fine w (Client c) what h = h
   hold-fine w (Replica i) (UpdateCopy call time) h = h
   hold-fine w (Replica i) (QueryCopy call) h = record { accepted = h.accepted; messages = h.messages }
@@ -102,7 +107,7 @@ module _ {Value Op : Type 0} (m : Meaning Value Op) where
   hold-fine w (Replica i) (GossipOf names) h = h
   hold-fine w (Replica i) Blank h = h
 
-  take-fine : (w : Facts Op) (to : Actor) (what : Carried Op) → HasUpdates w → HasUpdates (take_read w to what)
+  take-fine : (w : Facts Op) (to : Actor) (what : Carried Op) → Holds w → Holds (take_read w to what)
   take-fine w (Client c) what h = h
   take-fine w (Replica i) (UpdateCopy call time) h = h
   take-fine w (Replica i) (QueryCopy call) h = h
@@ -111,7 +116,7 @@ module _ {Value Op : Type 0} (m : Meaning Value Op) where
   take-fine w (Replica i) (GossipOf names) h = record { accepted = h.accepted; messages = h.messages }
   take-fine w (Replica i) Blank h = h
 
-  got-fine : (w : Facts Op) (to : Actor) (what : Carried Op) → HasUpdates w → HasUpdates (got_read w to what)
+  got-fine : (w : Facts Op) (to : Actor) (what : Carried Op) → Holds w → Holds (got_read w to what)
   got-fine w (Replica i) what h = h
   got-fine w (Client c) (UpdateCopy call time) h = h
   got-fine w (Client c) (QueryCopy call) h = h
@@ -120,119 +125,158 @@ module _ {Value Op : Type 0} (m : Meaning Value Op) where
   got-fine w (Client c) (GossipOf names) h = h
   got-fine w (Client c) Blank h = h
 
-  line-fine : (x : Option (SentMessage Op)) (w : Facts Op) (line : Outcome) → CameFine x → IsOther line → HasUpdates w → HasUpdates (line_read x w line)
-  line-fine x w (Send number from to (Update cid time)) came other h = absurd other
-  line-fine x w (Send number from to (Query cid)) came other h = sent-fine w number from to (Query cid) (query-fine (w.front cid.client).open_call) h x
-  line-fine x w (Send number from to (Done cid spot)) came other h = sent-fine w number from to (Done cid spot) tt h x
-  line-fine x w (Send number from to (Answer cid text)) came other h = sent-fine w number from to (Answer cid text) tt h x
-  line-fine x w (Send number from to Gossip) came other h = sent-fine w number from to Gossip tt h x
-  line-fine None w (Accept spot cid) came other h = h
-  line-fine (Some x) w (Accept spot cid) came other h = accept-fine w spot x.to x.what came h
-  line-fine None w (Hold cid) came other h = h
-  line-fine (Some x) w (Hold cid) came other h = hold-fine w x.to x.what h
-  line-fine None w (Take count) came other h = h
-  line-fine (Some x) w (Take count) came other h = take-fine w x.to x.what h
-  line-fine None w (Got cid) came other h = h
-  line-fine (Some x) w (Got cid) came other h = got-fine w x.to x.what h
-  line-fine x w (Stale cid) came other h = h
-  line-fine x w (NoMessage message) came other h = h
-  line-fine x w (Refuse why) came other h = h
-  line-fine x w (State line) came other h = h
+  line-fine : (A : List ℕ → Type 0) (x : Option (SentMessage Op)) (w : Facts Op) (line : Outcome) → CameFine x → IsOther A line → Holds w → Holds (line_read x w line)
+  line-fine A x w (Send number from to (Update cid time)) came other h = absurd other
+  line-fine A x w (Send number from to (Query cid)) came other h = sent-fine w number from to (Query cid) (query-fine (w.front cid.client).open_call) h x
+  line-fine A x w (Send number from to (Done cid spot)) came other h = sent-fine w number from to (Done cid spot) tt h x
+  line-fine A x w (Send number from to (Answer cid text)) came other h = sent-fine w number from to (Answer cid text) tt h x
+  line-fine A x w (Send number from to Gossip) came other h = sent-fine w number from to Gossip tt h x
+  line-fine A None w (Accept spot cid) came other h = h
+  line-fine A (Some x) w (Accept spot cid) came other h = accept-fine w spot x.to x.what came h
+  line-fine A None w (Hold cid) came other h = h
+  line-fine A (Some x) w (Hold cid) came other h = hold-fine w x.to x.what h
+  line-fine A None w (Take count) came other h = h
+  line-fine A (Some x) w (Take count) came other h = take-fine w x.to x.what h
+  line-fine A None w (Got cid) came other h = h
+  line-fine A (Some x) w (Got cid) came other h = got-fine w x.to x.what h
+  line-fine A x w (Stale cid) came other h = h
+  line-fine A x w (NoMessage message) came other h = h
+  line-fine A x w (Refuse why) came other h = h
+  line-fine A x w (State line) came other h = h
 
-  lines-fine : (x : Option (SentMessage Op)) (w : Facts Op) (lines : List Outcome) → CameFine x → Each IsOther lines → HasUpdates w → HasUpdates (lines_read x w lines)
-  lines-fine x w [] came other h = h
-  lines-fine x w (line ∷ lines) came other h = lines-fine x (line_read x w line) lines came other.1 (line-fine x w line came other.0 h)
+  lines-fine : (A : List ℕ → Type 0) (x : Option (SentMessage Op)) (w : Facts Op) (lines : List Outcome) → CameFine x → Each (IsOther A) lines → Holds w → Holds (lines_read x w lines)
+  lines-fine A x w [] came other h = h
+  lines-fine A x w (line ∷ lines) came other h = lines-fine A x (line_read x w line) lines came other.1 (line-fine A x w line came other.0 h)
 
-  -- ---- what a delivery prints
+-- ---- what is printed
 
-  accept-other : (w : Facts Op) (i : ℕ) (cid : Cid) (room left : Bool) → Each IsOther (accept_lines w i cid room left)
+module _ {Value Op : Type 0} (m : Meaning Value Op) (A : List ℕ → Type 0) where
+  -- A holds of what each replica would answer now
+  abbrev pub AnswersFine : Facts Op → Type 0
+  AnswersFine w = (i : ℕ) (op : Op) → A (m.read (value m w.accepted (ready w.accepted (w.received i))) op)
+
+  accept-other : (w : Facts Op) (i : ℕ) (cid : Cid) (room left : Bool) → Each (IsOther A) (accept_lines w i cid room left)
   accept-other w i cid false left = (tt, tt)
   accept-other w i cid true false = (tt, tt)
   accept-other w i cid true true = (tt, (tt, tt))
 
-  update-other : (config : Config) (w : Facts Op) (i : ℕ) (cid : Cid) (o : Option Spot) → Each IsOther (update_lines config w i cid o)
+  update-other : (config : Config) (w : Facts Op) (i : ℕ) (cid : Cid) (o : Option Spot) → Each (IsOther A) (update_lines config w i cid o)
   update-other config w i cid (Some spot) = (tt, (tt, tt))
   update-other config w i cid None = accept-other w i cid _ _
 
-  query-other : (w : Facts Op) (i : ℕ) (call : LabelledCall Op) (covered room : Bool) → Each IsOther (query_lines m w i call covered room)
-  query-other w i call true room = (tt, tt)
-  query-other w i call false true = (tt, tt)
-  query-other w i call false false = (tt, tt)
+  query-other : (w : Facts Op) → AnswersFine w → (i : ℕ) (call : LabelledCall Op) (covered room : Bool) → Each (IsOther A) (query_lines m w i call covered room)
+  query-other w fine i call true room = (fine i call.op, tt)
+  query-other w fine i call false true = (tt, tt)
+  query-other w fine i call false false = (tt, tt)
 
-  reply-other : (o : Option (LabelledCall Op)) (cid : Cid) → IsOther (reply_line o cid)
+  reply-other : (o : Option (LabelledCall Op)) (cid : Cid) → IsOther A (reply_line o cid)
   reply-other None cid = tt
   reply-other (Some call) cid = split (same_cid call.cid cid)
     where
-      split : (t : Bool) → IsOther (cond t (Got cid) (Stale cid))
+      split : (t : Bool) → IsOther A (cond t (Got cid) (Stale cid))
       split true = tt
       split false = tt
 
-  message-other : (config : Config) (w : Facts Op) (to : Actor) (what : Carried Op) → Each IsOther (message_lines m config w to what)
-  message-other config w (Replica i) (UpdateCopy call time) = update-other config w i call.cid _
-  message-other config w (Replica i) (QueryCopy call) = query-other w i call _ _
-  message-other config w (Replica i) (DoneReply cid names) = tt
-  message-other config w (Replica i) (AnswerReply cid names) = tt
-  message-other config w (Replica i) (GossipOf names) = (tt, tt)
-  message-other config w (Replica i) Blank = tt
-  message-other config w (Client c) (UpdateCopy call time) = tt
-  message-other config w (Client c) (QueryCopy call) = tt
-  message-other config w (Client c) (DoneReply cid names) = (reply-other (w.front c).open_call cid, tt)
-  message-other config w (Client c) (AnswerReply cid names) = (reply-other (w.front c).open_call cid, tt)
-  message-other config w (Client c) (GossipOf names) = tt
-  message-other config w (Client c) Blank = tt
+  message-other : (config : Config) (w : Facts Op) → AnswersFine w → (to : Actor) (what : Carried Op) → Each (IsOther A) (message_lines m config w to what)
+  message-other config w fine (Replica i) (UpdateCopy call time) = update-other config w i call.cid _
+  message-other config w fine (Replica i) (QueryCopy call) = query-other w fine i call _ _
+  message-other config w fine (Replica i) (DoneReply cid names) = tt
+  message-other config w fine (Replica i) (AnswerReply cid names) = tt
+  message-other config w fine (Replica i) (GossipOf names) = (tt, tt)
+  message-other config w fine (Replica i) Blank = tt
+  message-other config w fine (Client c) (UpdateCopy call time) = tt
+  message-other config w fine (Client c) (QueryCopy call) = tt
+  message-other config w fine (Client c) (DoneReply cid names) = (reply-other (w.front c).open_call cid, tt)
+  message-other config w fine (Client c) (AnswerReply cid names) = (reply-other (w.front c).open_call cid, tt)
+  message-other config w fine (Client c) (GossipOf names) = tt
+  message-other config w fine (Client c) Blank = tt
 
-  delivery-other : (config : Config) (w : Facts Op) (number : ℕ) (o : Option (SentMessage Op)) → Each IsOther (delivery_lines m config w number o)
-  delivery-other config w number None = (tt, tt)
-  delivery-other config w number (Some x) = message-other config w x.to x.what
+  pub delivery-other : (config : Config) (w : Facts Op) → AnswersFine w → (number : ℕ) (o : Option (SentMessage Op)) → Each (IsOther A) (delivery_lines m config w number o)
+  delivery-other config w fine number None = (tt, tt)
+  delivery-other config w fine number (Some x) = message-other config w fine x.to x.what
 
-  answers-other : (w : Facts Op) (number i : ℕ) (calls : List (LabelledCall Op)) → Each IsOther (answers m w number i calls)
-  answers-other w number i [] = tt
-  answers-other w number i (call ∷ calls) = split (is_within w.accepted call.label (w.received i)) (answers-other w (suc number) i calls) (answers-other w number i calls)
+  answers-other : (w : Facts Op) → AnswersFine w → (number i : ℕ) (calls : List (LabelledCall Op)) → Each (IsOther A) (answers m w number i calls)
+  answers-other w fine number i [] = tt
+  answers-other w fine number i (call ∷ calls) = split (is_within w.accepted call.label (w.received i)) (answers-other w fine (suc number) i calls) (answers-other w fine number i calls)
     where
-      split : (t : Bool) → Each IsOther (answers m w (suc number) i calls) → Each IsOther (answers m w number i calls)
-          → Each IsOther (cond t (answer_line m w number i call ∷ answers m w (suc number) i calls) (answers m w number i calls))
-      split true more same = (tt, more)
+      split : (t : Bool) → Each (IsOther A) (answers m w (suc number) i calls) → Each (IsOther A) (answers m w number i calls)
+          → Each (IsOther A) (cond t (answer_line m w number i call ∷ answers m w (suc number) i calls) (answers m w number i calls))
+      split true more same = (fine i call.op, more)
       split false more same = same
 
-  answers_at-other : (w : Facts Op) (o : Option ℕ) → Each IsOther (answers_at m w o)
-  answers_at-other w None = tt
-  answers_at-other w (Some i) = answers-other w _ i (w.held i)
+  pub answers_at-other : (w : Facts Op) → AnswersFine w → (o : Option ℕ) → Each (IsOther A) (answers_at m w o)
+  answers_at-other w fine None = tt
+  answers_at-other w fine (Some i) = answers-other w fine _ i (w.held i)
 
-  -- ---- a step
+-- ---- steps
+
+module _ {Value Op : Type 0} (m : Meaning Value Op) (P : Op → Type 0) where
+  -- P holds of an update's operation that an event calls
+  abbrev pub CallsFine : Event Op → Type 0
+  CallsFine (Call client replica reading op) = IsUpdate (m.kind op) → P op
+  CallsFine (Deliver message) = Unit {0}
+  CallsFine (GossipEvent from to) = Unit {0}
+  CallsFine (Show replica) = Unit {0}
 
   -- a call is sent as an update's only where its operation is one
-  call-fine : (w : Facts Op) (client replica reading clock : ℕ) (op : Op) (o : Option (LabelledCall Op)) (worn : Bool) → HasUpdates w
-      → HasUpdates (lines_read None (record w { front = put_at client (front_called client reading op (w.front client) o worn) w.front }) (call_lines m w client replica clock op o worn ++ []))
-  call-fine w client replica reading clock op (Some call) worn h = record { accepted = h.accepted; messages = h.messages }
-  call-fine w client replica reading clock op None true h = record { accepted = h.accepted; messages = h.messages }
-  call-fine w client replica reading clock op None false h = record { accepted = h.accepted; messages = (copy (is_query (m.kind op)) refl, h.messages) }
+  call-fine : (w : Facts Op) (client replica reading clock : ℕ) (op : Op) (o : Option (LabelledCall Op)) (worn : Bool) → (IsUpdate (m.kind op) → P op) → Holds P w
+      → Holds P (lines_read None (record w { front = put_at client (front_called client reading op (w.front client) o worn) w.front }) (call_lines m w client replica clock op o worn))
+  call-fine w client replica reading clock op (Some call) worn fine h = record { accepted = h.accepted; messages = h.messages }
+  call-fine w client replica reading clock op None true fine h = record { accepted = h.accepted; messages = h.messages }
+  call-fine w client replica reading clock op None false fine h = record { accepted = h.accepted; messages = (copy (is_query (m.kind op)) refl, h.messages) }
     where
       copy : (t : Bool) → is_query (m.kind op) ≡ t
-          → IsFine (carried (record w { front = put_at client (front_called client reading op (w.front client) None false) w.front }) (Client client) (cond t (Query (next_call client (w.front client) op).cid) (Update (next_call client (w.front client) op).cid clock)))
-      copy true e = query-fine _
-      copy false e = subst (λ (f : FrontFacts Op). IsFine (copy_of f.open_call (λ call. UpdateCopy call clock))) (sym (put_at-same client (front_called client reading op (w.front client) None false) w.front)) e
+          → IsFine P (carried (record w { front = put_at client (front_called client reading op (w.front client) None false) w.front }) (Client client) (cond t (Query (next_call client (w.front client) op).cid) (Update (next_call client (w.front client) op).cid clock)))
+      copy true e = query-fine P _
+      copy false e = subst (λ (f : FrontFacts Op). IsFine P (copy_of f.open_call (λ call. UpdateCopy call clock))) (sym (put_at-same client (front_called client reading op (w.front client) None false) w.front)) (fine e)
 
-  -- what is answered at the end of a step
-  last-other : (config : Config) (w : Facts Op) (event : Event Op) → Each IsOther (answers_at m (lines_read (delivered w event) (event_read w event) (own_lines m config w event)) (stepping w event))
-  last-other config w event = answers_at-other (lines_read (delivered w event) (event_read w event) (own_lines m config w event)) (stepping w event)
+  -- the message that an event delivers was sent before
+  came-fine : (w : Facts Op) (event : Event Op) → Holds P w → CameFine P (delivered w event)
+  came-fine w (Call client replica reading op) h = tt
+  came-fine w (Deliver message) h = found-fine P message w.messages h.messages
+  came-fine w (GossipEvent from to) h = tt
+  came-fine w (Show replica) h = tt
 
-  event-fine : (config : Config) (w : Facts Op) (event : Event Op) → HasUpdates w → HasUpdates (lines_read (delivered w event) (event_read w event) (outcomes_of m config w event))
-  event-fine config w (Call client replica reading op) h = call-fine w client replica reading _ op (w.front client).open_call ((w.front client).calls == 2 ^ 62) h
-  event-fine config w (Deliver message) h =
-      lines-fine (delivered w (Deliver message)) w (outcomes_of m config w (Deliver message)) (found-fine message w.messages h.messages)
-      (each-append IsOther _ _ (delivery-other config w message (delivered w (Deliver message))) (last-other config w (Deliver message))) h
-  event-fine config w (GossipEvent from to) h = lines-fine None w (outcomes_of m config w (GossipEvent from to)) tt (tt, last-other config w (GossipEvent from to)) h
-  event-fine config w (Show replica) h = lines-fine None w (outcomes_of m config w (Show replica)) tt (tt, tt) h
+  -- P holds on after the lines of the event itself
+  pub own-fine : (config : Config) (w : Facts Op) (event : Event Op) → CallsFine event → Holds P w → Holds P (lines_read (delivered w event) (event_read w event) (own_lines m config w event))
+  own-fine config w (Call client replica reading op) fine h = call-fine w client replica reading _ op (w.front client).open_call ((w.front client).calls == 2 ^ 62) fine h
+  own-fine config w (Deliver message) fine h =
+      lines-fine P IsAny (delivered w (Deliver message)) w (own_lines m config w (Deliver message)) (came-fine w (Deliver message) h)
+      (delivery-other m IsAny config w (λ i op. tt) message (delivered w (Deliver message))) h
+  own-fine config w (GossipEvent from to) fine h = lines-fine P IsAny None w (own_lines m config w (GossipEvent from to)) tt (tt, tt) h
+  own-fine config w (Show replica) fine h = lines-fine P IsAny None w (own_lines m config w (Show replica)) tt (tt, tt) h
 
-  ended-fine : (o : Option ℕ) (w : Facts Op) → HasUpdates w → HasUpdates (step_ended o w)
+  -- after all lines of the event
+  event-fine : (config : Config) (w : Facts Op) (event : Event Op) → CallsFine event → Holds P w → Holds P (lines_read (delivered w event) (event_read w event) (outcomes_of m config w event))
+  event-fine config w event fine h =
+      let own = own_lines m config w event in
+      let mid = lines_read (delivered w event) (event_read w event) own in
+      let last = answers_at m mid (stepping w event) in
+      subst (λ (v : Facts Op). Holds P v) (sym (lines_read-append (delivered w event) (event_read w event) own last))
+      (lines-fine P IsAny (delivered w event) mid last (came-fine w event h) (answers_at-other m IsAny mid (λ i op. tt) (stepping w event)) (own-fine config w event fine h))
+
+  ended-fine : (o : Option ℕ) (w : Facts Op) → Holds P w → Holds P (step_ended o w)
   ended-fine None w h = h
   ended-fine (Some i) w h = record { accepted = h.accepted; messages = h.messages }
 
-  legal-fine : (config : Config) (w : Facts Op) (steps : List (Step Op)) → LegalFrom m config w steps → HasUpdates w → HasUpdates (facts_after w steps)
-  legal-fine config w [] legal h = h
-  legal-fine config w (step ∷ steps) legal h =
-      legal-fine config (after w step) steps legal.1
-      (ended-fine (stepping w step.event) _ (subst (λ (lines : List Outcome). HasUpdates (lines_read (delivered w step.event) (event_read w step.event) lines)) (sym legal.0) (event-fine config w step.event h)))
+  -- and after the whole step
+  pub step-fine : (config : Config) (w : Facts Op) (step : Step Op) → CallsFine step.event → step.outcomes ≡ outcomes_of m config w step.event → Holds P w → Holds P (after w step)
+  step-fine config w step fine legal h =
+      ended-fine (stepping w step.event) _ (subst (λ (lines : List Outcome). Holds P (lines_read (delivered w step.event) (event_read w step.event) lines)) (sym legal) (event-fine config w step.event fine h))
+
+  legal-fine : (config : Config) (w : Facts Op) (steps : List (Step Op)) → Each (λ step. CallsFine step.event) steps → LegalFrom m config w steps → Holds P w → Holds P (facts_after w steps)
+  legal-fine config w [] fine legal h = h
+  legal-fine config w (step ∷ steps) fine legal h = legal-fine config (after w step) steps fine.1 legal.1 (step-fine config w step fine.0 legal.0 h)
+
+-- ---- accepted updates
+
+module _ {Value Op : Type 0} (m : Meaning Value Op) where
+  -- of an update that is called it holds that it is one
+  calls-updates : (event : Event Op) → CallsFine m (λ op. IsUpdate (m.kind op)) event
+  calls-updates (Call client replica reading op) = λ is. is
+  calls-updates (Deliver message) = tt
+  calls-updates (GossipEvent from to) = tt
+  calls-updates (Show replica) = tt
 
   each-told : (kind_of : Op → Kind) → ((op : Op) → m.kind op ≡ kind_of op) → (accepted : List (AcceptedUpdate Op)) → Each (λ a. IsUpdate (m.kind a.op)) (map acceptance_of accepted) → Each (λ a. IsUpdate (kind_of a.op)) accepted
   each-told kind_of kinds [] each = tt
@@ -243,4 +287,4 @@ module _ {Value Op : Type 0} (m : Meaning Value Op) where
   told-updates kind_of kinds config steps g legal is =
       each-told kind_of kinds g.accepted
       (subst (λ (accepted : List (Acceptance Op)). Each (λ a. IsUpdate (m.kind a.op)) accepted) (sym (ap (λ (w : Facts Op). w.accepted) is))
-      (legal-fine config first_facts steps legal (record { accepted = tt; messages = tt })).accepted)
+      (legal-fine m (λ op. IsUpdate (m.kind op)) config first_facts steps (each-from _ steps (λ step member. calls-updates step.event)) legal (record { accepted = tt; messages = tt })).accepted)

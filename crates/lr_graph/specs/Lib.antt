@@ -10,6 +10,7 @@ pub mod Closed
 pub mod Names
 pub mod Central
 pub mod Orderings
+pub mod Answers
 pub mod Tables
 pub mod Told
 pub mod Slow

@@ -1,5 +1,6 @@
 //! Laws about legal histories: each function does nothing, and its contract is the law.
 ghost use Rattle.std.specs.Prelude.{◌≡◌, ◌++◌, ◌∷◌, ℕ, [], List, filter, map};
+ghost use Rattle.lr_graph.specs.Answers.{CallsOp, HasPrintableAnswer};
 ghost use Rattle.lr_graph.specs.Central.{IsCentral, facts_after};
 ghost use Rattle.lr_graph.specs.Closed.{Each, IsClosed, IsSound, IsWithin};
 ghost use Rattle.lr_graph.specs.Graph.{Acceptance, first_facts, ready, value};
@@ -51,4 +52,9 @@ pub fn ready_is_the_greatest_closed_set<S: Service>()
 pub fn every_order_gives_one_value<S: Service>()
     ensures value { (config : Config) (steps : List (Step S.Op)) → Each (λ step. IsEventOf S.meaning config step.event) steps → IsLegal S.meaning config steps → (i : ℕ) (order : List (Acceptance S.Op)) → let w = facts_after first_facts steps in let at_hand = ready w.accepted (w.received i) in IsOrderOf w.accepted at_hand order → value S.meaning order everything ≡ value S.meaning w.accepted at_hand }
     ensures own { (config : Config) (steps : List (Step S.Op)) → Each (λ step. IsEventOf S.meaning config step.event) steps → IsLegal S.meaning config steps → (i : ℕ) → let w = facts_after first_facts steps in let at_hand = ready w.accepted (w.received i) in IsOrderOf w.accepted at_hand (filter (λ a. at_hand a.spot) w.accepted) }
+{}
+
+/// Each answer of a legal history whose calls are of the service's operations is printable, and so holds no line feed.
+pub fn answers_are_printable<S: Service>()
+    ensures { (config : Config) (steps : List (Step S.Op)) → Each (λ step. CallsOp S.meaning step.event) steps → IsLegal S.meaning config steps → Each (λ step. Each HasPrintableAnswer step.outcomes) steps }
 {}

@@ -7,8 +7,9 @@ mod slow;
 mod worked;
 
 pub use laws::{
-    a_made_history_goes_on, every_order_gives_one_value, legal_histories_are_one,
-    ready_is_the_greatest_closed_set, runs_are_legal, stamps_stand_for_sets, what_is_made_is_legal,
+    a_made_history_goes_on, answers_are_printable, every_order_gives_one_value,
+    legal_histories_are_one, ready_is_the_greatest_closed_set, runs_are_legal,
+    stamps_stand_for_sets, what_is_made_is_legal,
 };
 pub use slow::{ready_of, value_of};
 pub use worked::{

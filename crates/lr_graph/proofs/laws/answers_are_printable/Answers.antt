@@ -1,0 +1,5 @@
+use Rattle.lr_graph.proofs.Printable.{answers-printable}
+use Rattle.lr_graph.proofs.laws.answers_are_printable.Goals as goal
+
+pub returns : goal.returns
+returns g c config steps ops legal = answers-printable g.S.Service.meaning _ g.met.S.Service.lawful config steps ops legal
