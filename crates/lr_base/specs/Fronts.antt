@@ -1,12 +1,17 @@
 -- What contracts see of a front end, and what its commands do.
-use Rattle.std.specs.Prelude.{◌+◌, ℕ, Bool, false, max, replicate, List, Option, Some, None, if◌then◌else◌}
+use Rattle.std.specs.Prelude.{◌+◌, ℕ, Bool, true, false, max, replicate, List, [], ◌∷◌, Option, Some, None, if◌then◌else◌}
 use Rattle.lr_base.specs.Rules.{same_cid}
 use Rattle.lr_base.specs.Stamps.{join}
+use Rattle.lr_base.specs.declared.acts.Act.{Act}
+use Rattle.lr_base.specs.declared.acts.Act.TheVariants.{Say, Send}
+use Rattle.lr_base.specs.declared.events.Outcome.TheVariants.{Got, Stale, Refuse}
+use Rattle.lr_base.specs.declared.events.Refusal.TheVariants.{Worn, Unfinished}
 use Rattle.lr_base.specs.declared.lr_service.Kind.{Kind}
 use Rattle.lr_base.specs.declared.lr_service.Kind.TheVariants.{Query as AQuery}
+use Rattle.lr_base.specs.declared.names.Actor.{Actor}
 use Rattle.lr_base.specs.declared.names.Cid.{Cid}
 use Rattle.lr_base.specs.declared.messages.Message.{Message}
-use Rattle.lr_base.specs.declared.messages.Message.TheVariants.{Update, Query}
+use Rattle.lr_base.specs.declared.messages.Message.TheVariants.{Update, Query, Done, Answer, Gossip}
 
 -- a client's number, its clock, the label of its calls, how many it made, and the call that is open
 pub record FrontState : Type 0 where
@@ -48,3 +53,37 @@ reply_taken cid stamp front =
     if is_open front.open_call cid
     then record front { label = join front.label stamp; open_call = None }
     else front
+
+-- a front end after a step, and what it does in it
+pub record FrontEnding (Op : Type 0) : Type 0 where
+  pub front : FrontState
+  pub acts : List (Act Op)
+
+-- a front end is called: its reading counts in any case, and its call is sent if none is open and its numbers aren't used up
+abbrev pub front_on_call : {Op : Type 0} → Kind → Actor → ℕ → Op → FrontState → Option Cid → Bool → FrontEnding Op
+front_on_call kind to reading op front (Some cid) worn = record {
+  front = clock_read reading front;
+  acts = Say (Refuse (Unfinished cid)) ∷ [];
+}
+front_on_call kind to reading op front None true = record { front = clock_read reading front; acts = Say (Refuse Worn) ∷ [] }
+front_on_call kind to reading op front None false = record {
+  front = called reading front;
+  acts = Send to (message_of kind front reading op) ∷ [];
+}
+
+-- what a front end says of a reply to this call, which is open or not
+abbrev pub reply_acts : {Op : Type 0} → Cid → Bool → List (Act Op)
+reply_acts cid true = Say (Got cid) ∷ []
+reply_acts cid false = Say (Stale cid) ∷ []
+
+-- a front end takes the reply to a call
+abbrev pub front_on_reply : {Op : Type 0} → Cid → List ℕ → FrontState → FrontEnding Op
+front_on_reply cid stamp front = record { front = reply_taken cid stamp front; acts = reply_acts cid (is_open front.open_call cid) }
+
+-- a message comes to a front end, where just replies have a rule
+abbrev pub front_on_message : {Op : Type 0} → Message Op → FrontState → FrontEnding Op
+front_on_message (Update call time) front = record { front = front; acts = [] }
+front_on_message (Query call) front = record { front = front; acts = [] }
+front_on_message (Done cid spot stamp) front = front_on_reply cid stamp front
+front_on_message (Answer cid text stamp) front = front_on_reply cid stamp front
+front_on_message (Gossip gossip) front = record { front = front; acts = [] }

@@ -2,6 +2,7 @@ pub mod Ascending
 pub mod ByteLaws
 pub mod Bytes
 pub mod Config
+pub mod Events
 pub mod Fronts
 pub mod Kinds
 pub mod Lattice
