@@ -29,10 +29,10 @@ use Rattle.lr_base.specs.declared.names.Actor.{Actor}
 use Rattle.lr_base.specs.declared.names.Actor.TheVariants.{Client, Replica}
 use Rattle.lr_base.specs.declared.names.Cid.{Cid}
 use Rattle.lr_base.specs.declared.names.Config.{Config}
-use Rattle.lr_graph.specs.After.{after, carried, copy_of, front_called as front_read, lines_read, next_call, receiving, takes_reply}
+use Rattle.lr_graph.specs.After.{after, call_read, carried, copy_of, lines_read, next_call, receiving, takes_reply}
 use Rattle.lr_graph.specs.Graph.{Acceptance, AnswerReply, Carried, DoneReply, Facts, FrontFacts, LabelledCall, QueryCopy, SentMessage, UpdateCopy}
 use Rattle.lr_graph.specs.Legal.{call_lines, delivery_lines, logged, message_lines, next_number, outcomes_of, reply_line}
-use Rattle.lr_graph.specs.Runs.{RunState, Stepped, act_lines, client_called, delivered as delivered_by_rules, front_ended, front_given, given, message_at, replica_ended, replica_given, replica_gossips, sent_of_message, shown, stepped, unchanged, with_front}
+use Rattle.lr_graph.specs.Runs.{RunState, Stepped, act_lines, client_called, delivered, front_ended, front_given, given, message_at, replica_ended, replica_given, replica_gossips, sent_of_message, shown, stepped, unchanged, with_front}
 use Rattle.lr_graph.specs.Sets.{SpotSet, put_at, ◌∪◌}
 use Rattle.lr_graph.specs.Closed.{IsAmong, IsAccepted, IsSetOf, IsWithin}
 use Rattle.lr_graph.specs.Names.{Names}
@@ -221,7 +221,7 @@ module _ {Value Op : Type 0} (m : Meaning Value Op) (kind_of : Op → Kind) (law
     to_actor n number from what (Client client) there way message carries = to_client n number from what client there way message carries
     to_actor n number from what (Replica i) there way message carries = to_replica n number from what i there way message carries
 
-    delivers : (n : ℕ) (x : Option (SentMessage Op)) (p : Option (Posted Op)) → SameOption (SameMessage m config w.accepted w.received same.issued (calls_in w)) x p → Delivers n x (delivered_by_rules m v n p)
+    delivers : (n : ℕ) (x : Option (SentMessage Op)) (p : Option (Posted Op)) → SameOption (SameMessage m config w.accepted w.received same.issued (calls_in w)) x p → Delivers n x (delivered m v n p)
     delivers n None None h = record { lines = refl; same = same }
     delivers n None (Some p) h = absurd h
     delivers n (Some x) None h = absurd h
@@ -259,7 +259,7 @@ module _ {Value Op : Type 0} (m : Meaning Value Op) (kind_of : Op → Kind) (law
     abbrev Calls : Option (LabelledCall Op) → Bool → Stepped Value Op → Type 0
     Calls o worn s =
         (s.outcomes ≡ call_lines m w client replica (max facts.clock reading) op o worn ++ [])
-        × IsSame m config (lines_read None (record w { front = put_at client (front_read client reading op facts o worn) w.front }) (call_lines m w client replica (max facts.clock reading) op o worn ++ [])) s.run
+        × IsSame m config (lines_read None (record w { front = put_at client (call_read client reading op facts o worn) w.front }) (call_lines m w client replica (max facts.clock reading) op o worn ++ [])) s.run
 
     -- a refused call's reading counts
     refused : (o : Option (LabelledCall Op)) → facts.open_call ≡ o

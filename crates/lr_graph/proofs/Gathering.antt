@@ -6,7 +6,7 @@ use Rattle.lr_base.specs.declared.names.Spot.{Spot}
 use Rattle.lr_graph.specs.Graph.{FrontFacts}
 use Rattle.lr_graph.specs.Sets.{SpotSet, put_at}
 use Rattle.lr_graph.specs.Tables.{entry_at}
-use Rattle.lr_graph.specs.Told.{front_of, front_or_first, message_of, set_of, set_or_nothing, told}
+use Rattle.lr_graph.specs.Told.{front_of, front_or_first, sent_message_of, set_of, set_or_nothing, told}
 use Rattle.lr_graph.specs.declared.facts.entry.Entry.{Entry}
 use Rattle.lr_graph.specs.declared.facts.items.FrontNow.{FrontNow}
 use Rattle.lr_graph.specs.declared.facts.items.Gathered.{Gathered}
@@ -35,11 +35,11 @@ module _ {Op : Type 0} where
   told-front g client front new put = ap (λ (fronts : ℕ → FrontFacts Op). record (told g) { front = fronts }) (read-put front_or_first client front (entry_at g.fronts) (entry_at new) put)
 
   -- the message of a number is told by the one of this number
-  pub find-told : (number : ℕ) (messages : List (SentCopy Op)) → option_map message_of (find (λ x. x.number == number) messages) ≡ find (λ x. x.number == number) (map message_of messages)
+  pub find-told : (number : ℕ) (messages : List (SentCopy Op)) → option_map sent_message_of (find (λ x. x.number == number) messages) ≡ find (λ x. x.number == number) (map sent_message_of messages)
   find-told number [] = refl
   find-told number (x ∷ messages) = split (x.number == number) (find-told number messages)
     where
-      split : (t : Bool) → option_map message_of (find (λ x. x.number == number) messages) ≡ find (λ x. x.number == number) (map message_of messages)
-          → option_map message_of (cond t (Some x) (find (λ x. x.number == number) messages)) ≡ cond t (Some (message_of x)) (find (λ x. x.number == number) (map message_of messages))
+      split : (t : Bool) → option_map sent_message_of (find (λ x. x.number == number) messages) ≡ find (λ x. x.number == number) (map sent_message_of messages)
+          → option_map sent_message_of (cond t (Some x) (find (λ x. x.number == number) messages)) ≡ cond t (Some (sent_message_of x)) (find (λ x. x.number == number) (map sent_message_of messages))
       split true rest = refl
       split false rest = rest

@@ -11,7 +11,7 @@ use Rattle.lr_base.specs.declared.events.Step.{Step}
 use Rattle.lr_base.specs.declared.lr_service.Kind.{Kind}
 use Rattle.lr_base.specs.declared.names.Actor.TheVariants.{Client, Replica}
 use Rattle.lr_base.specs.declared.names.Config.{Config}
-use Rattle.lr_graph.specs.After.{after, delivered, event_read, lines_read, next_call, stepping}
+use Rattle.lr_graph.specs.After.{after, delivery_of, event_read, lines_read, next_call, stepping}
 use Rattle.lr_graph.specs.Answers.{CallsOp, HasPrintableAnswer}
 use Rattle.lr_graph.specs.Closed.{Each}
 use Rattle.lr_graph.specs.Graph.{Acceptance, Facts, LabelledCall, first_facts, has_call, ready, value}
@@ -79,14 +79,14 @@ module _ {Value Op : Type 0} (m : Meaning Value Op) (kind_of : Op → Kind) (law
 
   own-printable : (config : Config) (w : Facts Op) (event : Event Op) → Holds (IsOp m) w → Each HasPrintableAnswer (own_lines m config w event)
   own-printable config w (Call client replica reading op) h = call-printable m w client replica _ op (w.front client).open_call ((w.front client).calls == 2 ^ 62)
-  own-printable config w (Deliver message) h = others-printable _ (delivery-other m IsPrinted config w (answers-fine w h) message (delivered w (Deliver message)))
+  own-printable config w (Deliver message) h = others-printable _ (delivery-other m IsPrinted config w (answers-fine w h) message (delivery_of w (Deliver message)))
   own-printable config w (GossipEvent from to) h = (tt, tt)
   own-printable config w (Show replica) h = (tt, tt)
 
   event-printable : (config : Config) (w : Facts Op) (event : Event Op) → CallsOp m event → Holds (IsOp m) w → Each HasPrintableAnswer (outcomes_of m config w event)
   event-printable config w event is h =
       let own = own_lines m config w event in
-      let mid = lines_read (delivered w event) (event_read w event) own in
+      let mid = lines_read (delivery_of w event) (event_read w event) own in
       let fine = answers-fine mid (own-fine m (IsOp m) config w event (calls-ops m event is) h) in
       each-append HasPrintableAnswer own (answers_at m mid (stepping w event)) (own-printable config w event h)
       (others-printable _ (answers_at-other m IsPrinted mid fine (stepping w event)))

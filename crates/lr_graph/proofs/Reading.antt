@@ -10,7 +10,7 @@ use Rattle.lr_base.specs.declared.events.Step.{Step}
 use Rattle.lr_base.specs.declared.names.Actor.{Actor}
 use Rattle.lr_base.specs.declared.names.Actor.TheVariants.{Client, Replica}
 use Rattle.lr_base.specs.declared.names.Spot.{Spot}
-use Rattle.lr_graph.specs.After.{accept_read, after, carried, delivered, event_read, got_read, hold_read, line_read, lines_read, step_ended, stepping, take_read}
+use Rattle.lr_graph.specs.After.{accept_read, after, carried, delivery_of, event_read, got_read, hold_read, line_read, lines_read, step_ended, stepping, take_read}
 use Rattle.lr_graph.specs.Central.{facts_after}
 use Rattle.lr_graph.specs.Graph.{Carried, Facts, SentMessage, UpdateCopy, QueryCopy, DoneReply, AnswerReply, GossipOf, Blank}
 use Rattle.lr_graph.specs.Told.{bare}
@@ -107,23 +107,23 @@ module _ {Op : Type 0} where
   bare-event w (GossipEvent from to) = refl
   bare-event w (Show replica) = refl
 
-  bare-delivered : (w : Facts Op) (event : Event Op) → delivered (bare w) event ≡ delivered w event
-  bare-delivered w (Call client replica reading op) = refl
-  bare-delivered w (Deliver message) = refl
-  bare-delivered w (GossipEvent from to) = refl
-  bare-delivered w (Show replica) = refl
+  bare-delivery : (w : Facts Op) (event : Event Op) → delivery_of (bare w) event ≡ delivery_of w event
+  bare-delivery w (Call client replica reading op) = refl
+  bare-delivery w (Deliver message) = refl
+  bare-delivery w (GossipEvent from to) = refl
+  bare-delivery w (Show replica) = refl
 
   -- a step changes them by its event and its lines
-  pub bare-step : (w : Facts Op) (step : Step Op) → bare (after w step) ≡ bare (lines_read (delivered w step.event) (event_read w step.event) step.outcomes)
-  bare-step w step = bare-ended (stepping w step.event) (lines_read (delivered w step.event) (event_read w step.event) step.outcomes)
+  pub bare-step : (w : Facts Op) (step : Step Op) → bare (after w step) ≡ bare (lines_read (delivery_of w step.event) (event_read w step.event) step.outcomes)
+  bare-step w step = bare-ended (stepping w step.event) (lines_read (delivery_of w step.event) (event_read w step.event) step.outcomes)
 
   bare-after : (w : Facts Op) (step : Step Op) → bare (after (bare w) step) ≡ bare (after w step)
   bare-after w step =
       bare-step (bare w) step
-      ∙ ap (λ x. bare (lines_read x (event_read (bare w) step.event) step.outcomes)) (bare-delivered w step.event)
-      ∙ sym (bare-lines (delivered w step.event) (event_read (bare w) step.event) step.outcomes)
-      ∙ ap (λ v. bare (lines_read (delivered w step.event) v step.outcomes)) (bare-event w step.event)
-      ∙ bare-lines (delivered w step.event) (event_read w step.event) step.outcomes
+      ∙ ap (λ x. bare (lines_read x (event_read (bare w) step.event) step.outcomes)) (bare-delivery w step.event)
+      ∙ sym (bare-lines (delivery_of w step.event) (event_read (bare w) step.event) step.outcomes)
+      ∙ ap (λ v. bare (lines_read (delivery_of w step.event) v step.outcomes)) (bare-event w step.event)
+      ∙ bare-lines (delivery_of w step.event) (event_read w step.event) step.outcomes
       ∙ sym (bare-step w step)
 
   facts-append : (w : Facts Op) (steps : List (Step Op)) (step : Step Op) → facts_after w (steps ++ step ∷ []) ≡ after (facts_after w steps) step

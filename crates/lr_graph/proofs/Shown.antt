@@ -1,14 +1,14 @@
 -- The state line of a replica, and whether it may log and number one more.
 use Rattle.std.proofs.Common.{◌≡◌, ℕ, suc, true, List, [], ◌∷◌, map, refl, sym, ◌∙◌, arith}
 use Rattle.lr_base.specs.Meaning.{Meaning}
-use Rattle.lr_base.specs.Replicas.{ReplicaState, state_line_of as line_by_rules}
+use Rattle.lr_base.specs.Replicas.{ReplicaState, state_line_of}
 use Rattle.lr_base.specs.declared.messages.Call.{Call}
 use Rattle.lr_base.specs.declared.messages.LogAck.{LogAck}
 use Rattle.lr_base.specs.declared.names.Config.{Config}
 use Rattle.lr_base.specs.declared.names.Spot.{Spot}
 use Rattle.lr_graph.specs.Closed.{IsAccepted, IsSound}
 use Rattle.lr_graph.specs.Graph.{Acceptance, Facts, LabelledCall, ready}
-use Rattle.lr_graph.specs.Legal.{logged, state_line_of}
+use Rattle.lr_graph.specs.Legal.{logged, replica_line}
 use Rattle.lr_graph.proofs.CallLists.{calls-table}
 use Rattle.lr_graph.proofs.Listing.{spots-log}
 use Rattle.lr_graph.proofs.Relation.{IsReplicaAt, SameHeld, SameList}
@@ -24,7 +24,7 @@ held-cids clients l (c ∷ cs) (d ∷ ds) h = λ i. h.0.call.cid i ∷ held-cids
 -- what is printed of a replica is the same in the graph and by the rules
 pub same-line : {Value Op : Type 0} (m : Meaning Value Op) (config : Config) (w : Facts Op) (i : ℕ) → IsSound w.accepted → ((s : Spot) → w.received i s ≡ true → IsAccepted w.accepted s)
     → (replica : ReplicaState Value Op) → replica.me ≡ i → IsReplicaAt m config w.accepted (w.received i) (logged config w i) (w.kept i) (w.held i) replica.causal
-    → state_line_of config w i ≡ line_by_rules replica
+    → replica_line config w i ≡ state_line_of replica
 same-line m config w i sound exist replica number ok =
     let clock = ok.still.clock in
     let received = counts-are w.accepted sound (w.received i) replica.causal.rep_ts ok.counted exist (suc config.replicas) (ok.still.parts ∙ omega arith) in

@@ -14,7 +14,7 @@ use Rattle.lr_base.specs.declared.lr_service.Kind.{Kind}
 use Rattle.lr_base.specs.declared.names.Actor.TheVariants.{Replica}
 use Rattle.lr_base.specs.declared.names.Cid.{Cid}
 use Rattle.lr_base.specs.declared.names.Config.{Config}
-use Rattle.lr_graph.specs.After.{line_read, lines_read, replica_ended, step_ended}
+use Rattle.lr_graph.specs.After.{end_read, line_read, lines_read, step_ended}
 use Rattle.lr_graph.specs.Closed.{Each}
 use Rattle.lr_graph.specs.Graph.{Acceptance, Facts, Kept, LabelledCall, SentMessage, is_within, keep_new, ready}
 use Rattle.lr_graph.specs.Legal.{answers_at, logged, next_number}
@@ -126,7 +126,7 @@ module _ {Value Op : Type 0} (m : Meaning Value Op) (kind_of : Op → Kind) (law
 
   -- the facts at the end
   abbrev w2 : Facts Op
-  w2 = replica_ended (record w1 { messages = sent.messages }) i
+  w2 = end_read (record w1 { messages = sent.messages }) i
 
   shared_end : IsShared m config issued w2 v.fronts (v.posted ++ act_posts (Replica i) last.acts)
   shared_end =
@@ -181,7 +181,7 @@ module _ {Value Op : Type 0} (m : Meaning Value Op) (kind_of : Op → Kind) (law
     lines = act_lines-append (length v.posted) (Replica i) end.acts (held_acts m now now.held)
         ∙ (λ k. sym part.lines k ++ act_lines (sym (length-append v.posted (act_posts (Replica i) end.acts)) k) (Replica i) (held_acts m now now.held))
         ∙ ap (λ (lines : List Outcome). own ++ lines) (sym answer_lines);
-    same = subst (λ (facts : Facts Op). IsSame m config (replica_ended facts i) (record { replicas = replicas2; fronts = v.fronts; posted = v.posted ++ act_posts (Replica i) last.acts }))
+    same = subst (λ (facts : Facts Op). IsSame m config (end_read facts i) (record { replicas = replicas2; fronts = v.fronts; posted = v.posted ++ act_posts (Replica i) last.acts }))
         (sym (lines_read-append x w own (answers_at m w1 (Some i)) ∙ sent.facts))
         (record { issued = issued; shared = shared_end; replicas = tied_end });
   }

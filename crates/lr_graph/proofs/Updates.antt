@@ -17,7 +17,7 @@ use Rattle.lr_base.specs.declared.names.Actor.TheVariants.{Client, Replica}
 use Rattle.lr_base.specs.declared.names.Cid.{Cid}
 use Rattle.lr_base.specs.declared.names.Config.{Config}
 use Rattle.lr_base.specs.declared.names.Spot.{Spot}
-use Rattle.lr_graph.specs.After.{accept_read, after, carried, copy_of, delivered, event_read, front_called, got_read, hold_read, line_read, lines_read, next_call, step_ended, stepping, take_read}
+use Rattle.lr_graph.specs.After.{accept_read, after, call_read, carried, copy_of, delivery_of, event_read, got_read, hold_read, line_read, lines_read, next_call, step_ended, stepping, take_read}
 use Rattle.lr_graph.specs.Central.{facts_after}
 use Rattle.lr_graph.specs.Closed.{Each}
 use Rattle.lr_graph.specs.Graph.{Acceptance, Carried, Facts, FrontFacts, LabelledCall, SentMessage, UpdateCopy, QueryCopy, DoneReply, AnswerReply, GossipOf, Blank, first_facts, is_within, ready, value}
@@ -220,40 +220,40 @@ module _ {Value Op : Type 0} (m : Meaning Value Op) (P : Op → Type 0) where
 
   -- a call is sent as an update's only where its operation is one
   call-fine : (w : Facts Op) (client replica reading clock : ℕ) (op : Op) (o : Option (LabelledCall Op)) (worn : Bool) → (IsUpdate (m.kind op) → P op) → Holds P w
-      → Holds P (lines_read None (record w { front = put_at client (front_called client reading op (w.front client) o worn) w.front }) (call_lines m w client replica clock op o worn))
+      → Holds P (lines_read None (record w { front = put_at client (call_read client reading op (w.front client) o worn) w.front }) (call_lines m w client replica clock op o worn))
   call-fine w client replica reading clock op (Some call) worn fine h = record { accepted = h.accepted; messages = h.messages }
   call-fine w client replica reading clock op None true fine h = record { accepted = h.accepted; messages = h.messages }
   call-fine w client replica reading clock op None false fine h = record { accepted = h.accepted; messages = (copy (is_query (m.kind op)) refl, h.messages) }
     where
       copy : (t : Bool) → is_query (m.kind op) ≡ t
-          → IsFine P (carried (record w { front = put_at client (front_called client reading op (w.front client) None false) w.front }) (Client client) (cond t (Query (next_call client (w.front client) op).cid) (Update (next_call client (w.front client) op).cid clock)))
+          → IsFine P (carried (record w { front = put_at client (call_read client reading op (w.front client) None false) w.front }) (Client client) (cond t (Query (next_call client (w.front client) op).cid) (Update (next_call client (w.front client) op).cid clock)))
       copy true e = query-fine P _
-      copy false e = subst (λ (f : FrontFacts Op). IsFine P (copy_of f.open_call (λ call. UpdateCopy call clock))) (sym (put_at-same client (front_called client reading op (w.front client) None false) w.front)) (fine e)
+      copy false e = subst (λ (f : FrontFacts Op). IsFine P (copy_of f.open_call (λ call. UpdateCopy call clock))) (sym (put_at-same client (call_read client reading op (w.front client) None false) w.front)) (fine e)
 
   -- the message that an event delivers was sent before
-  came-fine : (w : Facts Op) (event : Event Op) → Holds P w → CameFine P (delivered w event)
+  came-fine : (w : Facts Op) (event : Event Op) → Holds P w → CameFine P (delivery_of w event)
   came-fine w (Call client replica reading op) h = tt
   came-fine w (Deliver message) h = found-fine P message w.messages h.messages
   came-fine w (GossipEvent from to) h = tt
   came-fine w (Show replica) h = tt
 
   -- P holds on after the lines of the event itself
-  pub own-fine : (config : Config) (w : Facts Op) (event : Event Op) → CallsFine event → Holds P w → Holds P (lines_read (delivered w event) (event_read w event) (own_lines m config w event))
+  pub own-fine : (config : Config) (w : Facts Op) (event : Event Op) → CallsFine event → Holds P w → Holds P (lines_read (delivery_of w event) (event_read w event) (own_lines m config w event))
   own-fine config w (Call client replica reading op) fine h = call-fine w client replica reading _ op (w.front client).open_call ((w.front client).calls == 2 ^ 62) fine h
   own-fine config w (Deliver message) fine h =
-      lines-fine P IsAny (delivered w (Deliver message)) w (own_lines m config w (Deliver message)) (came-fine w (Deliver message) h)
-      (delivery-other m IsAny config w (λ i op. tt) message (delivered w (Deliver message))) h
+      lines-fine P IsAny (delivery_of w (Deliver message)) w (own_lines m config w (Deliver message)) (came-fine w (Deliver message) h)
+      (delivery-other m IsAny config w (λ i op. tt) message (delivery_of w (Deliver message))) h
   own-fine config w (GossipEvent from to) fine h = lines-fine P IsAny None w (own_lines m config w (GossipEvent from to)) tt (tt, tt) h
   own-fine config w (Show replica) fine h = lines-fine P IsAny None w (own_lines m config w (Show replica)) tt (tt, tt) h
 
   -- after all lines of the event
-  event-fine : (config : Config) (w : Facts Op) (event : Event Op) → CallsFine event → Holds P w → Holds P (lines_read (delivered w event) (event_read w event) (outcomes_of m config w event))
+  event-fine : (config : Config) (w : Facts Op) (event : Event Op) → CallsFine event → Holds P w → Holds P (lines_read (delivery_of w event) (event_read w event) (outcomes_of m config w event))
   event-fine config w event fine h =
       let own = own_lines m config w event in
-      let mid = lines_read (delivered w event) (event_read w event) own in
+      let mid = lines_read (delivery_of w event) (event_read w event) own in
       let last = answers_at m mid (stepping w event) in
-      subst (λ (v : Facts Op). Holds P v) (sym (lines_read-append (delivered w event) (event_read w event) own last))
-      (lines-fine P IsAny (delivered w event) mid last (came-fine w event h) (answers_at-other m IsAny mid (λ i op. tt) (stepping w event)) (own-fine config w event fine h))
+      subst (λ (v : Facts Op). Holds P v) (sym (lines_read-append (delivery_of w event) (event_read w event) own last))
+      (lines-fine P IsAny (delivery_of w event) mid last (came-fine w event h) (answers_at-other m IsAny mid (λ i op. tt) (stepping w event)) (own-fine config w event fine h))
 
   ended-fine : (o : Option ℕ) (w : Facts Op) → Holds P w → Holds P (step_ended o w)
   ended-fine None w h = h
@@ -262,7 +262,7 @@ module _ {Value Op : Type 0} (m : Meaning Value Op) (P : Op → Type 0) where
   -- and after the whole step
   pub step-fine : (config : Config) (w : Facts Op) (step : Step Op) → CallsFine step.event → step.outcomes ≡ outcomes_of m config w step.event → Holds P w → Holds P (after w step)
   step-fine config w step fine legal h =
-      ended-fine (stepping w step.event) _ (subst (λ (lines : List Outcome). Holds P (lines_read (delivered w step.event) (event_read w step.event) lines)) (sym legal) (event-fine config w step.event fine h))
+      ended-fine (stepping w step.event) _ (subst (λ (lines : List Outcome). Holds P (lines_read (delivery_of w step.event) (event_read w step.event) lines)) (sym legal) (event-fine config w step.event fine h))
 
   legal-fine : (config : Config) (w : Facts Op) (steps : List (Step Op)) → Each (λ step. CallsFine step.event) steps → LegalFrom m config w steps → Holds P w → Holds P (facts_after w steps)
   legal-fine config w [] fine legal h = h

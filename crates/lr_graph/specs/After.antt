@@ -18,26 +18,26 @@ abbrev pub next_call : {Op : Type 0} → ℕ → FrontFacts Op → Op → Labell
 next_call client front op = record { cid = record { client = client; seq = suc front.calls }; op = op; label = front.label }
 
 -- a call's reading counts in any case, and the call opens where none is open and a number is left
-abbrev pub front_called : {Op : Type 0} → ℕ → ℕ → Op → FrontFacts Op → Option (LabelledCall Op) → Bool → FrontFacts Op
-front_called client reading op front (Some call) worn = record front { clock = max front.clock reading }
-front_called client reading op front None true = record front { clock = max front.clock reading }
-front_called client reading op front None false = record front { clock = max front.clock reading; calls = suc front.calls; open_call = Some (next_call client front op) }
+abbrev pub call_read : {Op : Type 0} → ℕ → ℕ → Op → FrontFacts Op → Option (LabelledCall Op) → Bool → FrontFacts Op
+call_read client reading op front (Some call) worn = record front { clock = max front.clock reading }
+call_read client reading op front None true = record front { clock = max front.clock reading }
+call_read client reading op front None false = record front { clock = max front.clock reading; calls = suc front.calls; open_call = Some (next_call client front op) }
 
 -- the facts after an event, before its lines are read: a call is made
 abbrev pub event_read : {Op : Type 0} → Facts Op → Event Op → Facts Op
 event_read w (Call client replica reading op) =
     let front = w.front client in
-    record w { front = put_at client (front_called client reading op front front.open_call (front.calls == 2 ^ 62)) w.front }
+    record w { front = put_at client (call_read client reading op front front.open_call (front.calls == 2 ^ 62)) w.front }
 event_read w (Deliver message) = w
 event_read w (GossipEvent from to) = w
 event_read w (Show replica) = w
 
 -- the message that an event delivers
-abbrev pub delivered : {Op : Type 0} → Facts Op → Event Op → Option (SentMessage Op)
-delivered w (Call client replica reading op) = None
-delivered w (Deliver message) = find (λ x. x.number == message) w.messages
-delivered w (GossipEvent from to) = None
-delivered w (Show replica) = None
+abbrev pub delivery_of : {Op : Type 0} → Facts Op → Event Op → Option (SentMessage Op)
+delivery_of w (Call client replica reading op) = None
+delivery_of w (Deliver message) = find (λ x. x.number == message) w.messages
+delivery_of w (GossipEvent from to) = None
+delivery_of w (Show replica) = None
 
 -- the replica that an actor is
 abbrev pub replica_of : Actor → Option ℕ
@@ -52,7 +52,7 @@ receiving (Some x) = replica_of x.to
 -- the replica that an event is a step of, if it is a replica's
 abbrev pub stepping : {Op : Type 0} → Facts Op → Event Op → Option ℕ
 stepping w (Call client replica reading op) = None
-stepping w (Deliver message) = receiving (delivered w (Deliver message))
+stepping w (Deliver message) = receiving (delivery_of w (Deliver message))
 stepping w (GossipEvent from to) = Some from
 stepping w (Show replica) = None
 
@@ -140,8 +140,8 @@ lines_read x w [] = w
 lines_read x w (line ∷ lines) = lines_read x (line_read x w line) lines
 
 -- at the end of a replica's step its answered queries are held no more, and it keeps a spot of each call that got ready
-abbrev pub replica_ended : {Op : Type 0} → Facts Op → ℕ → Facts Op
-replica_ended w i = record w {
+abbrev pub end_read : {Op : Type 0} → Facts Op → ℕ → Facts Op
+end_read w i = record w {
   held = put_at i (filter (λ call. not (is_within w.accepted call.label (w.received i))) (w.held i)) w.held;
   kept = put_at i (keep_new w.accepted (ready w.accepted (w.received i)) w.accepted (w.kept i)) w.kept;
 }
@@ -149,9 +149,9 @@ replica_ended w i = record w {
 -- the facts at the end of a step of this replica, if it is a replica's
 abbrev pub step_ended : {Op : Type 0} → Option ℕ → Facts Op → Facts Op
 step_ended None w = w
-step_ended (Some i) w = replica_ended w i
+step_ended (Some i) w = end_read w i
 
 -- the facts after a step
 abbrev pub after : {Op : Type 0} → Facts Op → Step Op → Facts Op
 after w step =
-    step_ended (stepping w step.event) (lines_read (delivered w step.event) (event_read w step.event) step.outcomes)
+    step_ended (stepping w step.event) (lines_read (delivery_of w step.event) (event_read w step.event) step.outcomes)

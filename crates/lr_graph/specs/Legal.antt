@@ -16,7 +16,7 @@ use Rattle.lr_base.specs.declared.names.Actor.TheVariants.{Client, Replica}
 use Rattle.lr_base.specs.declared.names.Cid.{Cid}
 use Rattle.lr_base.specs.declared.names.Config.{Config}
 use Rattle.lr_base.specs.declared.names.Spot.{Spot}
-use Rattle.lr_graph.specs.After.{after, delivered, event_read, lines_read, next_call, stepping}
+use Rattle.lr_graph.specs.After.{after, delivery_of, event_read, lines_read, next_call, stepping}
 use Rattle.lr_graph.specs.Graph.{Carried, Facts, LabelledCall, SentMessage, UpdateCopy, QueryCopy, DoneReply, AnswerReply, GossipOf, calls_of, counts, first_facts, is_within, kept_spot, least_spot, made, ready, size_of, spots_of, value}
 use Rattle.lr_graph.specs.Sets.{SpotSet}
 
@@ -94,8 +94,8 @@ delivery_lines m config w number None = NoMessage number ∷ []
 delivery_lines m config w number (Some x) = message_lines m config w x.to x.what
 
 -- what is printed of a replica
-abbrev pub state_line_of : {Op : Type 0} → Config → Facts Op → ℕ → StateLine
-state_line_of config w i = record {
+abbrev pub replica_line : {Op : Type 0} → Config → Facts Op → ℕ → StateLine
+replica_line config w i = record {
   replica = i;
   view = 0;
   clock = 0;
@@ -112,9 +112,9 @@ abbrev pub own_lines : {Value Op : Type 0} → Meaning Value Op → Config → F
 own_lines m config w (Call client replica reading op) =
     let front = w.front client in
     call_lines m w client replica (max front.clock reading) op front.open_call (front.calls == 2 ^ 62)
-own_lines m config w (Deliver message) = delivery_lines m config w message (delivered w (Deliver message))
+own_lines m config w (Deliver message) = delivery_lines m config w message (delivery_of w (Deliver message))
 own_lines m config w (GossipEvent from to) = Send (next_number w) (Replica from) (Replica to) Gossip ∷ []
-own_lines m config w (Show replica) = State (state_line_of config w replica) ∷ []
+own_lines m config w (Show replica) = State (replica_line config w replica) ∷ []
 
 -- each held query whose label is now received is answered, in the order of arrival
 abbrev pub answers : {Value Op : Type 0} → Meaning Value Op → Facts Op → ℕ → ℕ → List (LabelledCall Op) → List Outcome
@@ -133,7 +133,7 @@ answers_at m w (Some i) = answers m w (next_number w) i (w.held i)
 abbrev pub outcomes_of : {Value Op : Type 0} → Meaning Value Op → Config → Facts Op → Event Op → List Outcome
 outcomes_of m config w event =
     let own = own_lines m config w event in
-    own ++ answers_at m (lines_read (delivered w event) (event_read w event) own) (stepping w event)
+    own ++ answers_at m (lines_read (delivery_of w event) (event_read w event) own) (stepping w event)
 
 -- each step has just the outcomes that its event may have after the steps before it
 abbrev pub LegalFrom : {Value Op : Type 0} → Meaning Value Op → Config → Facts Op → List (Step Op) → Type 0

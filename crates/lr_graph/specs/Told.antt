@@ -37,8 +37,8 @@ load_of (Gossip names) = GossipOf (set_of names)
 load_of Nothing = Blank
 
 -- the message that is told
-abbrev pub message_of : {Op : Type 0} → SentCopy Op → SentMessage Op
-message_of x = record { number = x.number; from = x.from; to = x.to; what = load_of x.load }
+abbrev pub sent_message_of : {Op : Type 0} → SentCopy Op → SentMessage Op
+sent_message_of x = record { number = x.number; from = x.from; to = x.to; what = load_of x.load }
 
 -- the front end that is told: its calls are counted no further than to their most
 abbrev pub front_of : {Op : Type 0} → FrontNow Op → FrontFacts Op
@@ -74,7 +74,7 @@ bare w = record w { kept = λ i. []; held = λ i. [] }
 abbrev pub told : {Op : Type 0} → Gathered Op → Facts Op
 told g = record {
   accepted = map acceptance_of g.accepted;
-  messages = map message_of g.messages;
+  messages = map sent_message_of g.messages;
   received = received_in g.received;
   kept = λ i. [];
   held = λ i. [];

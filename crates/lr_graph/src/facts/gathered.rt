@@ -9,7 +9,7 @@ ghost use Rattle.lr_graph.specs.Sets.{put_at};
 ghost use Rattle.lr_graph.specs.Told.{call_of, front_of, fronts_in, load_of, received_in, set_of, told};
 
 use crate::facts::causes::{below_of, ready_spots};
-use crate::facts::fronts::{first_front, replied};
+use crate::facts::fronts::{after_reply, first_front};
 use crate::facts::items::{AcceptedUpdate, CallCopy, FrontNow, Gathered, Load, SentCopy};
 use crate::facts::newest::Newest;
 use crate::facts::spots::{SpotList, add_all};
@@ -200,7 +200,7 @@ impl<O: Operation> Gathered<O> {
         ensures { OnOk result (told self.new ≡ takes_reply (told self.old) client (set_of names.now)) }
     {
         let front = self.front_at(alloc, client)?;
-        let front = replied(front, names)?;
+        let front = after_reply(front, names)?;
         self.set_front(client, front)
     }
 }
