@@ -1,6 +1,6 @@
 use Rattle.std.specs.Option.{option_map}
 use Rattle.lr_graph.specs.Told.{sent_message_of, told}
-use Rattle.lr_graph.proofs.Reading.{line-more}
+use Rattle.lr_graph.proofs.Told.Reading.{line-more}
 use Rattle.lr_graph.proofs.facts.reading.read_lines.Goals as goal
 
 pub loop-line-preserved : goal.loop-line-preserved

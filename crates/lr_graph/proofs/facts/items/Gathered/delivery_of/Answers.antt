@@ -4,7 +4,7 @@ use Rattle.std.specs.List.{find}
 use Rattle.std.specs.Option.{option_map}
 use Rattle.lr_graph.specs.Told.{sent_message_of}
 use Rattle.lr_graph.specs.declared.facts.items.SentCopy.{SentCopy}
-use Rattle.lr_graph.proofs.Gathering.{find-told}
+use Rattle.lr_graph.proofs.Told.Gathering.{find-told}
 use Rattle.lr_graph.proofs.facts.items.Gathered.delivery_of.Goals as goal
 
 pub returns-in-Deliver : goal.returns-in-Deliver
