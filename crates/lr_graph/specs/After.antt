@@ -1,33 +1,46 @@
 -- How the facts of a history change: by each event, and by each line that is printed of it.
-use Rattle.std.specs.Prelude.{ℕ, suc, Bool, true, false, ◌^◌, ◌==◌, ◌++◌, ◌∷◌, [], max, not, filter, find, List, Option, Some, None}
+use Rattle.std.specs.Prelude.{ℕ, suc, ◌^◌, ◌==◌, max, Bool, true, false, not, Option, Some, None}
+use Rattle.std.specs.Prelude.{List, [], ◌∷◌, ◌++◌, filter, find}
 use Rattle.lr_base.specs.declared.events.Event.{Event}
 use Rattle.lr_base.specs.declared.events.Event.TheVariants.{Call, Deliver, Gossip as GossipEvent, Show}
 use Rattle.lr_base.specs.declared.events.Outcome.{Outcome}
-use Rattle.lr_base.specs.declared.events.Outcome.TheVariants.{Send, Accept, Hold, Take, Got, Stale, NoMessage, Refuse, State}
+use Rattle.lr_base.specs.declared.events.Outcome.TheVariants.{Send, Accept, Hold, Take, Got, Stale}
+use Rattle.lr_base.specs.declared.events.Outcome.TheVariants.{NoMessage, Refuse, State}
 use Rattle.lr_base.specs.declared.events.Sent.{Sent}
 use Rattle.lr_base.specs.declared.events.Sent.TheVariants.{Update, Query, Done, Answer, Gossip}
 use Rattle.lr_base.specs.declared.events.Step.{Step}
 use Rattle.lr_base.specs.declared.names.Actor.{Actor}
 use Rattle.lr_base.specs.declared.names.Actor.TheVariants.{Client, Replica}
 use Rattle.lr_base.specs.declared.names.Spot.{Spot}
-use Rattle.lr_graph.specs.Graph.{Carried, Facts, FrontFacts, LabelledCall, SentMessage, UpdateCopy, QueryCopy, DoneReply, AnswerReply, GossipOf, Blank, below_of, is_within, keep_new, ready}
+use Rattle.lr_graph.specs.Graph.{Carried, Facts, FrontFacts, LabelledCall, SentMessage}
+use Rattle.lr_graph.specs.Graph.{UpdateCopy, QueryCopy, DoneReply, AnswerReply, GossipOf, Blank}
+use Rattle.lr_graph.specs.Graph.{below_of, is_within, keep_new, ready}
 use Rattle.lr_graph.specs.Sets.{SpotSet, nothing, only, put_at, ◌∪◌}
 
 -- the next call of a front end, with the label that it has
 abbrev pub next_call : {Op : Type 0} → ℕ → FrontFacts Op → Op → LabelledCall Op
-next_call client front op = record { cid = record { client = client; seq = suc front.calls }; op = op; label = front.label }
+next_call client front op = record {
+  cid = record { client = client; seq = suc front.calls };
+  op = op;
+  label = front.label;
+}
 
 -- a call's reading counts in any case, and the call opens where none is open and a number is left
 abbrev pub call_read : {Op : Type 0} → ℕ → ℕ → Op → FrontFacts Op → Option (LabelledCall Op) → Bool → FrontFacts Op
 call_read client reading op front (Some call) worn = record front { clock = max front.clock reading }
 call_read client reading op front None true = record front { clock = max front.clock reading }
-call_read client reading op front None false = record front { clock = max front.clock reading; calls = suc front.calls; open_call = Some (next_call client front op) }
+call_read client reading op front None false = record front {
+  clock = max front.clock reading;
+  calls = suc front.calls;
+  open_call = Some (next_call client front op);
+}
 
 -- the facts after an event, before its lines are read: a call is made
 abbrev pub event_read : {Op : Type 0} → Facts Op → Event Op → Facts Op
 event_read w (Call client replica reading op) =
     let front = w.front client in
-    record w { front = put_at client (call_read client reading op front front.open_call (front.calls == 2 ^ 62)) w.front }
+    let next = call_read client reading op front front.open_call (front.calls == 2 ^ 62) in
+    record w { front = put_at client next w.front }
 event_read w (Deliver message) = w
 event_read w (GossipEvent from to) = w
 event_read w (Show replica) = w
@@ -75,7 +88,7 @@ abbrev pub received_at : {Op : Type 0} → Facts Op → Actor → SpotSet
 received_at w (Replica i) = w.received i
 received_at w (Client client) = nothing
 
--- what a message carries that is sent now: the open call of its client, what its reply stands for, or what its replica received
+-- what a message carries that is sent now: its client's open call, what a reply stands for, or what a replica received
 abbrev pub carried : {Op : Type 0} → Facts Op → Actor → Sent → Carried Op
 carried w from (Update cid time) = copy_of (w.front cid.client).open_call (λ call. UpdateCopy call time)
 carried w from (Query cid) = copy_of (w.front cid.client).open_call QueryCopy
@@ -118,13 +131,15 @@ take_read w (Replica i) (GossipOf names) = record w { received = put_at i (w.rec
 take_read w _ _ = w
 
 -- the facts where a message came, if one did
-abbrev pub with_message : {Op : Type 0} → Facts Op → Option (SentMessage Op) → (Actor → Carried Op → Facts Op) → Facts Op
+abbrev pub with_message : {Op : Type 0} → Facts Op → Option (SentMessage Op)
+    → (Actor → Carried Op → Facts Op) → Facts Op
 with_message w None change = w
 with_message w (Some x) change = change x.to x.what
 
 -- the facts after a line: all but these five change nothing
 abbrev pub line_read : {Op : Type 0} → Option (SentMessage Op) → Facts Op → Outcome → Facts Op
-line_read x w (Send number from to what) = record w { messages = record { number = number; from = from; to = to; what = carried w from what } ∷ w.messages }
+line_read x w (Send number from to what) =
+    record w { messages = record { number = number; from = from; to = to; what = carried w from what } ∷ w.messages }
 line_read x w (Accept spot cid) = with_message w x (accept_read w spot)
 line_read x w (Hold cid) = with_message w x (hold_read w)
 line_read x w (Take count) = with_message w x (take_read w)

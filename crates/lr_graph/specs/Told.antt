@@ -3,7 +3,8 @@ use Rattle.std.specs.Prelude.{ℕ, ◌^◌, Bool, ◌&&◌, min, map, List, [], 
 use Rattle.std.specs.List.{list_any}
 use Rattle.std.specs.Option.{option_map}
 use Rattle.lr_base.specs.declared.names.Spot.{Spot}
-use Rattle.lr_graph.specs.Graph.{Acceptance, AnswerReply, Blank, Carried, DoneReply, Facts, FrontFacts, GossipOf, LabelledCall, QueryCopy, SentMessage, UpdateCopy, is_within}
+use Rattle.lr_graph.specs.Graph.{Acceptance, Carried, Facts, FrontFacts, LabelledCall, SentMessage, is_within}
+use Rattle.lr_graph.specs.Graph.{UpdateCopy, QueryCopy, DoneReply, AnswerReply, GossipOf, Blank}
 use Rattle.lr_graph.specs.Sets.{SpotSet, nothing, same_spot}
 use Rattle.lr_graph.specs.Tables.{entry_at}
 use Rattle.lr_graph.specs.declared.facts.entry.Entry.{Entry}
@@ -42,7 +43,12 @@ sent_message_of x = record { number = x.number; from = x.from; to = x.to; what =
 
 -- the front end that is told: its calls are counted no further than to their most
 abbrev pub front_of : {Op : Type 0} → FrontNow Op → FrontFacts Op
-front_of front = record { label = set_of front.label; calls = min front.calls (2 ^ 62); clock = front.clock; open_call = option_map call_of front.open_call }
+front_of front = record {
+  label = set_of front.label;
+  calls = min front.calls (2 ^ 62);
+  clock = front.clock;
+  open_call = option_map call_of front.open_call;
+}
 
 -- the set that is told, or nothing
 abbrev pub set_or_nothing : Option (List Spot) → SpotSet

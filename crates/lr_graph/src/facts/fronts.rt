@@ -33,7 +33,8 @@ pub fn after_call<O: Operation>(
     front: FrontNow<O>,
 ) -> Result<FrontNow<O>, NoMemory>
     ensures { IfOk result (λ after. front_of after
-        ≡ call_read client reading op.now (front_of front) (front_of front).open_call ((front_of front).calls == 2 ^ 62)) }
+        ≡ call_read client reading op.now (front_of front)
+        (front_of front).open_call ((front_of front).calls == 2 ^ 62)) }
 {
     let FrontNow {
         label,
@@ -70,7 +71,8 @@ pub fn after_reply<O: Operation>(
     front: FrontNow<O>,
     names: &SpotList,
 ) -> Result<FrontNow<O>, NoMemory>
-    ensures { IfOk result (λ after. front_of after ≡ record (front_of front) { label = (front_of front).label ∪ set_of names.now; open_call = None }) }
+    ensures { IfOk result (λ after. front_of after
+        ≡ record (front_of front) { label = (front_of front).label ∪ set_of names.now; open_call = None }) }
 {
     let FrontNow {
         mut label,

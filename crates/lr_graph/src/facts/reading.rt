@@ -1,7 +1,8 @@
 //! Reading a history: how its facts change by each event, and by each line that is printed of it.
 ghost use Rattle.std.specs.Prelude.{◌≡◌, ◌==◌, Some, None, IfOk, OnOk, find};
 ghost use Rattle.std.specs.Option.{option_copied, option_map};
-ghost use Rattle.lr_graph.specs.After.{accept_read, after, delivery_of, event_read, got_read, line_read, lines_read, take_read};
+ghost use Rattle.lr_graph.specs.After.{after, delivery_of, event_read, line_read, lines_read};
+ghost use Rattle.lr_graph.specs.After.{accept_read, got_read, take_read};
 ghost use Rattle.lr_graph.specs.Central.{facts_after};
 ghost use Rattle.lr_graph.specs.Graph.{first_facts};
 ghost use Rattle.lr_graph.specs.Told.{bare, load_of, sent_message_of, told};
@@ -133,7 +134,8 @@ impl<O: Operation> Gathered<O> {
         came: &SentCopy<O>,
         line: &Outcome,
     ) -> Result<(), NoMemory>
-        ensures { OnOk result (told self.new ≡ bare (line_read (Some (sent_message_of came.now)) (told self.old) line.now)) }
+        ensures { OnOk result (told self.new
+            ≡ bare (line_read (Some (sent_message_of came.now)) (told self.old) line.now)) }
     {
         match line {
             Outcome::Send {
@@ -185,7 +187,8 @@ impl<O: Operation> Gathered<O> {
         came: &Option<SentCopy<O>>,
         line: &Outcome,
     ) -> Result<(), NoMemory>
-        ensures { OnOk result (told self.new ≡ bare (line_read (option_map sent_message_of came.now) (told self.old) line.now)) }
+        ensures { OnOk result (told self.new
+            ≡ bare (line_read (option_map sent_message_of came.now) (told self.old) line.now)) }
     {
         match came {
             Some(message) => self.read_of_message(alloc, message, line),
@@ -224,7 +227,8 @@ fn read_lines<O: Operation>(
     came: &Option<SentCopy<O>>,
     lines: &[Outcome],
 ) -> Result<(), NoMemory>
-    ensures { OnOk result (told facts.new ≡ bare (lines_read (option_map sent_message_of came.now) (told facts.old) lines.now)) }
+    ensures { OnOk result (told facts.new
+        ≡ bare (lines_read (option_map sent_message_of came.now) (told facts.old) lines.now)) }
 {
     for line in lines {
         facts.read_line(alloc, came, line)?;
