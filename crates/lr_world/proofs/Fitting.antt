@@ -139,11 +139,13 @@ module _ {Value Op : Type 0} (kind_of : Op → Kind) (r : ReplicaState Value Op)
   -- what a task makes it send itself
   pub fitting-own : (m : Meaning Value Op) (task : Task Op) → IsTask kind_of config task → AllFitting kind_of config (own_of m r task).acts
   fitting-own m (Take from message) fits = fitting-taken m from message.now fits.1
-  fitting-own m (Tell to) fits =
-      (record {
-        to_known = lt-ltb to config.replicas fits;
-        shaped = record { parts = sound.rep_parts; client = refl; kind = refl; logged = sound.logged; updates_received = sound.updates_received; acks_received = sound.acks_received };
-      }, tt)
+  fitting-own m (Tell to) fits = (
+    record {
+      to_known = lt-ltb to config.replicas fits;
+      shaped = record { parts = sound.rep_parts; client = refl; kind = refl; logged = sound.logged; updates_received = sound.updates_received; acks_received = sound.acks_received };
+    },
+    tt,
+  )
 
   -- the answers to held queries
   pub fitting-answers : (m : Meaning Value Op) (calls : List (Call Op)) → AllAsked kind_of config calls → AllFitting kind_of config (held_acts m state calls)

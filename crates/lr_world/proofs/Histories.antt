@@ -27,7 +27,7 @@ module _ {Value Op : Type 0} (m : Meaning Value Op) (config : Config) where
   -- a step that was made goes on with the history
   pub made-more : (event : Event Op) (steps after : List (Step Op)) (run now : RunState Value Op) (lines : List Outcome)
       → ((config : Config) (steps : List (Step Op)) (run : RunState Value Op) (event : Event Op) → IsMade m config steps run → IsEventOf m config event
-          → IsMade m config (steps ++ made_step m run event ∷ []) (stepped m run event).run)
+      → IsMade m config (steps ++ made_step m run event ∷ []) (stepped m run event).run)
       → IsEventOf m config event → now ≡ (stepped m run event).run → lines ≡ (stepped m run event).outcomes
       → after ≡ steps ++ record { event = event; outcomes = lines } ∷ [] → ∥ IsMade m config steps run ∥₁ → ∥ IsMade m config after now ∥₁
   made-more event steps after run now lines law fits goes printed noted made =

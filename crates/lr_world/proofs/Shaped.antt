@@ -85,7 +85,6 @@ module _ {Op : Type 0} (kind_of : Op → Kind) (config : Config) where
       let first : AllPosted kind_of config (posted ++ own ∷ []) = each-push posted own (λ (k : ℕ) p. IsPosted kind_of config p) all (record { from_known = known; sendable = fitting.0 }) in
       subst (λ (ps : List (Posted Op)). AllPosted kind_of config ps) (append_assoc posted (own ∷ []) (act_posts from acts)) (posted-more (posted ++ own ∷ []) from acts known fitting.1 first)
 
-
   -- messages that are sent, or for want of memory aren't
   pub posted-either : {E : Type 0} (result : Result (Unit {0}) E) (posted more now : List (Posted Op)) → OnOk result (now ≡ posted ++ more) → OnErr result (now ≡ posted)
       → AllPosted kind_of config posted → AllPosted kind_of config more → AllPosted kind_of config now

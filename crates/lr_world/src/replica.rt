@@ -6,8 +6,8 @@ use crate::outbox::Outbox;
 use crate::task::Task;
 use lr_base::lr_service::{Operation, Service};
 use lr_base::{
-    Act, Actor, Call, Cid, Config, Fresh, Gossip, Message, NoMemory, Outcome, Refusal, Rows, Spot, Stamp,
-    StateLine, Text,
+    Act, Actor, Call, Cid, Config, Fresh, Gossip, Message, NoMemory, Outcome, Refusal, Rows, Spot,
+    Stamp, StateLine, Text,
 };
 use lr_causal::{Causal, Savepoint};
 use std::alloc::Global;
@@ -145,11 +145,7 @@ impl<S: Service> Replica<S> {
     }
 
     // What a task does itself.
-    fn act(
-        &mut self,
-        task: Task<'_, S::Op>,
-        out: &mut Outbox<S::Op>,
-    ) -> Result<(), NoMemory>
+    fn act(&mut self, task: Task<'_, S::Op>, out: &mut Outbox<S::Op>) -> Result<(), NoMemory>
         requires { IsTask S.Op.kind_of self.old.config task }
         ensures did { OnOk result (HasDone (own_of S.meaning self.old task.entry) self.new.causal out.old out.new) }
         ensures undo { CanUndo (heard_in self.old.me task.entry) self.old self.new }

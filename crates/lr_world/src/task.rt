@@ -9,5 +9,7 @@ pub enum Task<'a, O: Drop> {
         message: &'a Message<O>,
     },
     /// It sends gossip to another replica.
-    Tell { to: u8 },
+    Tell {
+        to: u8,
+    },
 }

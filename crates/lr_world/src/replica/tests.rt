@@ -2,10 +2,11 @@
 ghost use Rattle.std.specs.Prelude.{◌≡◌, true};
 ghost use Rattle.lr_world.specs.Shapes.{IsShaped, is_actor};
 
-use crate::acts::Acts;
+use crate::outbox::Outbox;
 use crate::replica::Replica;
+use crate::task::Task;
 use lr_base::lr_service::{Kind, Operation, Service};
-use lr_base::{Act, Actor, Call, Cid, Config, Message, NoMemory, Outcome, Stamp};
+use lr_base::{Actor, Call, Cid, Config, Message, NoMemory, Outcome, Stamp};
 use std::alloc::Global;
 use std::process::Abort;
 use std::test::Fail;
@@ -41,14 +42,16 @@ fn stamp_text(alloc: Global, stamp: &Stamp) -> Result<String, Fail> {
 fn whole_step(
     replica: &mut Replica<Tally>,
     message: &Message<TallyOp>,
-) -> Result<Acts<TallyOp>, NoMemory>
+    out: &mut Outbox<TallyOp>,
+) -> Result<(), NoMemory>
     requires shaped { IsShaped ⟦<TallyOp as Operation>⟧.kind_of replica.old.config message.now }
     requires client { is_actor replica.old.config (Actor.Client 0) ≡ true }
     ensures { replica.new.config ≡ replica.old.config }
 {
-    let (acts, _point) = replica.take(Actor::Client(0), message)?;
+    let from = Actor::Client(0);
+    let _point = replica.begin(Task::Take { from, message }, out)?;
     replica.finish();
-    Ok(acts)
+    Ok(())
 }
 
 // One of the three replicas takes the call of this number.
@@ -59,7 +62,7 @@ fn call(
     seq: u64,
     label: &[u64; 4],
     op: &str,
-) -> Result<Acts<TallyOp>, Fail>
+) -> Result<Outbox<TallyOp>, Fail>
     requires { replica.old.config ≡ THREE_REPLICAS }
     ensures { replica.new.config ≡ THREE_REPLICAS }
 {
@@ -69,28 +72,37 @@ fn call(
     let kind = Tally::kind(&op);
     let cid = Cid { client: 0, seq };
     let call = Call { cid, prev, op };
+    let mut out = Outbox::new(alloc);
+    out.open(Actor::Replica(0), 0);
     match kind {
-        Kind::Query => Ok(whole_step(replica, &Message::Query { call })?),
+        Kind::Query => whole_step(replica, &Message::Query { call }, &mut out)?,
         Kind::Causal | Kind::Forced | Kind::Immediate => {
-            Ok(whole_step(replica, &Message::Update { call, time: 0 })?)
+            whole_step(replica, &Message::Update { call, time: 0 }, &mut out)?;
         }
     }
+    Ok(out)
 }
 
 // One line for each act.
-fn text_of(alloc: Global, acts: Acts<TallyOp>) -> Result<String, Fail> {
+fn text_of(alloc: Global, mut out: Outbox<TallyOp>) -> Result<String, Fail> {
     let mut text = String::new(alloc);
-    for act in acts {
-        let line = match act {
-            Act::Say(outcome) => said_text(alloc, outcome)?,
-            Act::Send { to, message } => sent_text(alloc, to, message)?,
+    let mut posted = Vec::new(alloc);
+    out.post(&mut posted)?;
+    let mut posted = posted.into_iter();
+    for outcome in out.lines() {
+        let line = match outcome {
+            Outcome::Send { .. } => {
+                let post = posted.next().ok_or("no message")?;
+                sent_text(alloc, post.to, post.message)?
+            }
+            _ => said_text(alloc, outcome)?,
         };
         text.push_str(line.as_str())?;
     }
     Ok(text)
 }
 
-fn said_text(alloc: Global, outcome: Outcome) -> Result<String, Fail> {
+fn said_text(alloc: Global, outcome: &Outcome) -> Result<String, Fail> {
     match outcome {
         Outcome::Accept { spot, cid } => Ok(format!(in alloc;
             "accept {}:{} {}.{}\n",
@@ -160,8 +172,8 @@ fn held_queries_are_answered_behind_an_update(rt: HostRuntime) -> Result<(), Fai
         ),
     ];
     for (seq, label, op, want) in calls {
-        let acts = call(&rt, rt.alloc(), &mut replica, seq, &label, op)?;
-        let did = text_of(rt.alloc(), acts)?;
+        let out = call(&rt, rt.alloc(), &mut replica, seq, &label, op)?;
+        let did = text_of(rt.alloc(), out)?;
         assert_eq!(rt; did.as_str(), want, "call {seq}");
     }
     Ok(())

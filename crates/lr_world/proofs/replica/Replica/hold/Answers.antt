@@ -27,4 +27,3 @@ invariant_of-self-2 g c =
 
 pub returns-clause-undo : goal.returns-clause-undo
 returns-clause-undo g c row = subst (λ r. CanUndo row r (replica_of c.hold.new.self)) c.self.view_is (c.hold.ensures.undo row)
-

@@ -17,4 +17,3 @@ invariant_of-self-2 g c =
     let next = c.take_gossip.new.self in
     AllAsked-along g.S.Op.Operation.kind_of (config_of it) (config_of next) (state_of it).held (state_of next).held
     c.take_gossip.ensures.undo.same.setting (ap (λ s. s.held) c.in_ok-count.ensures.ok) c.self.invariant
-

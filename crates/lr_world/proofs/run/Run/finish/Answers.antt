@@ -15,7 +15,7 @@ invariant_of-self-clause-all_fronts g c =
     let it = c.args.self.now in
     let acting : (c.in-AtFront.client < it.config.clients) × IsFront it.config c.in-AtFront.client c.in-AtFront.front =
     subst (IsActing it.config) c.in-AtFront.is c.requires in
-    subst (AllFronts it.config) (sym c.put_front.ensures.put) 
+    subst (AllFronts it.config) (sym c.put_front.ensures.put)
     (each-set it.fronts.items c.in-AtFront.client _ (IsFront it.config) it.all_fronts (subst (IsFront it.config c.in-AtFront.client) (search rules) acting.1))
 
 pub invariant_of-self-in-AtReplica-clause-all_replicas : goal.invariant_of-self-in-AtReplica-clause-all_replicas

@@ -10,13 +10,14 @@ invariant_of-self-clause-all_posted g c =
 
 pub undo-requires-clause-begun : goal.undo-requires-clause-begun
 undo-requires-clause-begun g c =
-    let it = c.args.self.now in
-    (record { replicas = c.requires.begun.0; fronts = it.fronts.items; posted = it.posted.items },
-        record {
-          sent = ap (take c.len.result) c.in_default.ensures.err ∙ ap (λ n. take n it.posted.items) (c.len.ensures ∙ it.posted.ok.0) ∙ take-length it.posted.items;
-          fronts = refl;
-          replicas = c.requires.begun.1;
-        })
+    let it = c.args.self.now in (
+      record { replicas = c.requires.begun.0; fronts = it.fronts.items; posted = it.posted.items },
+      record {
+        sent = ap (take c.len.result) c.in_default.ensures.err ∙ ap (λ n. take n it.posted.items) (c.len.ensures ∙ it.posted.ok.0) ∙ take-length it.posted.items;
+        fronts = refl;
+        replicas = c.requires.begun.1;
+      },
+    )
 
 pub returns-in_default-clause-err : goal.returns-in_default-clause-err
 returns-in_default-clause-err g c replicas begun =
