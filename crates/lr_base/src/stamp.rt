@@ -32,11 +32,10 @@ impl Stamp {
         requires most { parts ≤ 10 }
         ensures { result ≡ replicate parts 0 }
     {
-        let mut zeros = ArrayVec::new();
-        for _ in 0..parts {
-            zeros.push(0);
+        let zeros = [0; MOST_PARTS];
+        Stamp {
+            parts: stored(&zeros[..parts as usize]),
         }
-        Stamp { parts: zeros }
     }
 
     /// How many parts it has.
@@ -50,11 +49,9 @@ impl Stamp {
     pub fn copy(&self) -> Stamp
         ensures { result ≡ self.now }
     {
-        let mut parts = ArrayVec::new();
-        for part in self.parts.as_slice() {
-            parts.push(*part);
+        Stamp {
+            parts: stored(self.parts.as_slice()),
         }
-        Stamp { parts }
     }
 
     /// The part at a place.
@@ -100,6 +97,16 @@ impl Clone for Stamp {
     fn clone(&self) -> Result<Self, AllocError> {
         Ok(self.copy())
     }
+}
+
+// These parts, copied at once.
+fn stored(parts: &[u64]) -> ArrayVec<u64, MOST_PARTS>
+    requires { length parts.now ≤ 10 }
+    ensures { result.items ≡ parts.now }
+{
+    let mut items = ArrayVec::new();
+    let _all_fit = items.try_extend_from_slice(parts);
+    items
 }
 
 fn raise(own: &mut [u64], other: &[u64])

@@ -143,7 +143,7 @@ impl<O: Operation> Log<O> {
     pub fn copy(&self) -> Result<Self, NoMemory>
         ensures { IfOk result (λ copied. copied ≡ self.now) }
     {
-        let mut updates = Vec::new(self.allocator());
+        let mut updates = Vec::with_capacity(self.allocator(), self.updates.len())?;
         for update in self.updates.as_slice() {
             updates.push(update.copy()?)?;
         }

@@ -152,9 +152,7 @@ fn stored(text: &[u8]) -> ArrayVec<u8, MOST_BYTES>
     ensures { result.items ≡ text.now }
 {
     let mut bytes = ArrayVec::new();
-    for byte in text {
-        bytes.push(*byte);
-    }
+    let _all_fit = bytes.try_extend_from_slice(text);
     bytes
 }
 
