@@ -74,15 +74,12 @@ impl Updates {
     }
 }
 
-// Applies what is ready of these, and tells how many waited.
-fn apply(value: &mut Value<Tally>, updates: &Updates, calls: &mut Calls) -> Result<usize, NoMemory>
+// Applies what is ready of these.
+fn apply(value: &mut Value<Tally>, updates: &Updates, calls: &mut Calls) -> Result<(), NoMemory>
     requires { length value.old.val_ts ≡ 4 }
     ensures { length value.new.val_ts ≡ 4 }
 {
-    let updates = updates.as_slice();
-    let count = value.count_waiting(updates);
-    value.apply_ready(updates, calls)?;
-    Ok(count)
+    value.apply_ready(updates.as_slice(), calls)
 }
 
 // An update of the client's call of this number, with its causes.
@@ -162,7 +159,7 @@ fn what_is_ready_is_applied_once(rt: HostRuntime) -> Result<(), Fail> {
     };
     let mut value = Value::<Tally>::new(rt.alloc(), 4)?;
     assert!(rt; value.val_ts().parts() == 4);
-    assert_eq!(rt; apply(&mut value, &updates, &mut calls)?, 4);
+    apply(&mut value, &updates, &mut calls)?;
     assert_eq!(rt; parts_of(value.val_ts()), [1, 2, 0, 0]);
     // (call, whether it was executed)
     for (seq, executed) in [(1, true), (2, true), (3, false)] {
@@ -191,7 +188,7 @@ fn what_was_applied_stays_so(rt: HostRuntime) -> Result<(), Fail> {
     let mut value = Value::from_parts(rt.alloc(), start, stamp(&rt, [1, 1, 0, 0]));
     assert!(rt; value.val_ts().parts() == 4);
     // Only the second call's other update waits, and the one that waits for ever.
-    assert_eq!(rt; apply(&mut value, &updates, &mut calls)?, 2);
+    apply(&mut value, &updates, &mut calls)?;
     assert_eq!(rt; parts_of(value.val_ts()), [1, 2, 0, 0]);
     assert_eq!(rt; calls.entries.len(), 1);
     Ok(())

@@ -3,8 +3,5 @@ use Rattle.svc_tally.specs.Tally.{tally_kind}
 use Rattle.lr_value.proofs.Facts.{AllLogged-along}
 use Rattle.lr_value.proofs.tests.apply.Goals as goal
 
-pub count_waiting-count-requires : goal.count_waiting-count-requires
-count_waiting-count-requires c = AllLogged-along tally_kind 4 _ c.as_slice-updates.result.now _ refl c.requires c.as_slice-updates.ensures
-
 pub apply_ready-requires : goal.apply_ready-requires
-apply_ready-requires c = AllLogged-along tally_kind 4 _ c.as_slice-updates.result.now _ refl c.requires c.as_slice-updates.ensures
+apply_ready-requires c = AllLogged-along tally_kind 4 _ c.as_slice.result.now _ refl c.requires c.as_slice.ensures
