@@ -4,6 +4,8 @@ pub mod Bytes
 pub mod Config
 pub mod Events
 pub mod Fronts
+pub mod Insertion
+pub mod InsertionLaws
 pub mod Kinds
 pub mod Lattice
 pub mod Logged

@@ -10,6 +10,7 @@ use Rattle.lr_base.specs.declared.messages.Fresh.TheVariants.{New, Late, Again, 
 use Rattle.lr_base.specs.declared.messages.Known.{Known}
 use Rattle.lr_base.specs.declared.messages.LogAck.{LogAck}
 use Rattle.lr_base.specs.declared.messages.LogUpdate.{LogUpdate}
+use Rattle.lr_base.specs.Insertion.{insert_all_by, insert_by}
 use Rattle.lr_base.specs.Meaning.{Meaning}
 use Rattle.lr_base.specs.Stamps.{part, join, stamp_le, set_part}
 
@@ -88,9 +89,8 @@ fresh_of delta state cid time =
     (find (λ ack. same_cid ack.cid cid) state.acks)
 
 -- the list with one more update, in the order of spots
-abbrev pub put_update : {Op : Type 0} → LogUpdate Op → List (LogUpdate Op) → List (LogUpdate Op)
-put_update u [] = u ∷ []
-put_update u (x ∷ updates) = if is_before u.spot x.spot then u ∷ x ∷ updates else x ∷ put_update u updates
+abbrev pub insert_update : {Op : Type 0} → LogUpdate Op → List (LogUpdate Op) → List (LogUpdate Op)
+insert_update u updates = insert_by (λ a b. is_before a.spot b.spot) u updates
 
 -- the update that a replica at this place makes of a call: it takes the next number, and comes after the last immediate update
 abbrev pub update_of_call : {Value Op : Type 0} → ℕ → CausalState Value Op → Call Op → LogUpdate Op
@@ -107,7 +107,7 @@ accepted me state call =
     let u = update_of_call me state call in
     record state {
       rep_ts = set_part state.rep_ts me u.spot.number;
-      updates = put_update u state.updates;
+      updates = insert_update u state.updates;
       top = u.spot.number;
     }
 
@@ -128,26 +128,23 @@ abbrev pub new_acks : List ℕ → List LogAck → List LogAck
 new_acks rep_ts acks = filter (λ a. is_new rep_ts a.spot) acks
 
 -- the list with these updates too, in the order of spots
-abbrev pub put_updates : {Op : Type 0} → List (LogUpdate Op) → List (LogUpdate Op) → List (LogUpdate Op)
-put_updates [] updates = updates
-put_updates (u ∷ more) updates = put_updates more (put_update u updates)
+abbrev pub insert_updates : {Op : Type 0} → List (LogUpdate Op) → List (LogUpdate Op) → List (LogUpdate Op)
+insert_updates more updates = insert_all_by (λ a b. is_before a.spot b.spot) more updates
 
 -- the list with one more acknowledgement, in the order of spots
-abbrev pub put_ack : LogAck → List LogAck → List LogAck
-put_ack a [] = a ∷ []
-put_ack a (x ∷ acks) = if is_before a.spot x.spot then a ∷ x ∷ acks else x ∷ put_ack a acks
+abbrev pub insert_ack : LogAck → List LogAck → List LogAck
+insert_ack ack acks = insert_by (λ a b. is_before a.spot b.spot) ack acks
 
 -- the list with these acknowledgements too
-abbrev pub put_acks : List LogAck → List LogAck → List LogAck
-put_acks [] acks = acks
-put_acks (a ∷ more) acks = put_acks more (put_ack a acks)
+abbrev pub insert_acks : List LogAck → List LogAck → List LogAck
+insert_acks more acks = insert_all_by (λ a b. is_before a.spot b.spot) more acks
 
 -- taking gossip of this replica: what is new is logged, and its stamp is joined to the own one and to the one kept of it
 abbrev pub gossip_taken : {Value Op : Type 0} → ℕ → CausalState Value Op → Gossip Op → CausalState Value Op
 gossip_taken from state gossip = record state {
   rep_ts = join state.rep_ts gossip.rep_ts;
-  updates = put_updates (new_updates state.rep_ts gossip.updates) state.updates;
-  acks = put_acks (new_acks state.rep_ts gossip.acks) state.acks;
+  updates = insert_updates (new_updates state.rep_ts gossip.updates) state.updates;
+  acks = insert_acks (new_acks state.rep_ts gossip.acks) state.acks;
   table = set state.table from (join (get_or state.table from []) gossip.rep_ts);
 }
 

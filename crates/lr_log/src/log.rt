@@ -2,7 +2,7 @@
 ghost use Rattle.std.specs.Prelude.{◌≡◌, ◌↔◌, ◌<◌, ◌≤◌, ◌+◌, [], length, filter, find, map, not, position, IsTrue, IfOk, OnOk, OnErr};
 ghost use Rattle.std.specs.Option.{option_map, option_copied};
 ghost use Rattle.std.specs.List.{position_or_len};
-ghost use Rattle.lr_base.specs.Rules.{is_new as is_new_at, put_ack, put_acks as all_acks_put, put_update, put_updates as all_updates_put, same_cid, is_before as spot_is_before};
+ghost use Rattle.lr_base.specs.Rules.{is_new as is_new_at, insert_ack, insert_acks as all_acks_inserted, insert_update, insert_updates as all_updates_inserted, same_cid, is_before as spot_is_before};
 ghost use Rattle.lr_log.specs.Items.{Items, item_count};
 
 use crate::received::is_new;
@@ -103,7 +103,7 @@ impl<O: Drop> Log<O> {
 
     /// Logs an update, at its place in the order of spots.
     pub fn add_update(&mut self, update: LogUpdate<O>) -> Result<(), NoMemory>
-        ensures ok { OnOk result (self.new ≡ record self.old { updates = put_update update self.old.updates }) }
+        ensures ok { OnOk result (self.new ≡ record self.old { updates = insert_update update self.old.updates }) }
         ensures err { OnErr result (self.new ≡ self.old) }
     {
         let at = place_of(self.updates.as_slice(), update.spot);
@@ -113,7 +113,7 @@ impl<O: Drop> Log<O> {
 
     /// Logs an acknowledgement, at its place in the order of spots.
     pub fn add_ack(&mut self, ack: LogAck) -> Result<(), NoMemory>
-        ensures ok { OnOk result (self.new ≡ record self.old { acks = put_ack ack self.old.acks }) }
+        ensures ok { OnOk result (self.new ≡ record self.old { acks = insert_ack ack self.old.acks }) }
         ensures err { OnErr result (self.new ≡ self.old) }
     {
         let at = ack_place_of(self.acks.as_slice(), ack.spot);
@@ -153,22 +153,22 @@ impl<O: Operation> Log<O> {
 
     /// Logs these items. Where there is none it takes no memory.
     pub fn add_all(&mut self, updates: &[&LogUpdate<O>], acks: &[LogAck]) -> Result<(), NoMemory>
-        ensures ok { OnOk result (self.new ≡ record self.old { updates = all_updates_put (map (λ u. u.now) updates.now) self.old.updates; acks = all_acks_put acks.now self.old.acks }) }
+        ensures ok { OnOk result (self.new ≡ record self.old { updates = all_updates_inserted (map (λ u. u.now) updates.now) self.old.updates; acks = all_acks_inserted acks.now self.old.acks }) }
         ensures err { OnErr result (self.new ≡ self.old) }
     {
         if updates.is_empty() && acks.is_empty() {
             return Ok(());
         }
         let mut log = self.copy()?;
-        put_updates(&mut log, updates)?;
-        put_acks(&mut log, acks)?;
+        insert_updates(&mut log, updates)?;
+        insert_acks(&mut log, acks)?;
         *self = log;
         Ok(())
     }
 }
 
-fn put_updates<O: Operation>(log: &mut Log<O>, updates: &[&LogUpdate<O>]) -> Result<(), NoMemory>
-    ensures { OnOk result (log.new ≡ record log.old { updates = all_updates_put (map (λ u. u.now) updates.now) log.old.updates }) }
+fn insert_updates<O: Operation>(log: &mut Log<O>, updates: &[&LogUpdate<O>]) -> Result<(), NoMemory>
+    ensures { OnOk result (log.new ≡ record log.old { updates = all_updates_inserted (map (λ u. u.now) updates.now) log.old.updates }) }
 {
     for update in updates {
         log.add_update(update.copy()?)?;
@@ -176,8 +176,8 @@ fn put_updates<O: Operation>(log: &mut Log<O>, updates: &[&LogUpdate<O>]) -> Res
     Ok(())
 }
 
-fn put_acks<O: Drop>(log: &mut Log<O>, acks: &[LogAck]) -> Result<(), NoMemory>
-    ensures { OnOk result (log.new ≡ record log.old { acks = all_acks_put acks.now log.old.acks }) }
+fn insert_acks<O: Drop>(log: &mut Log<O>, acks: &[LogAck]) -> Result<(), NoMemory>
+    ensures { OnOk result (log.new ≡ record log.old { acks = all_acks_inserted acks.now log.old.acks }) }
 {
     for ack in acks {
         log.add_ack(*ack)?;

@@ -7,6 +7,7 @@ use Rattle.std.specs.Fmt.{decimal}
 use Rattle.std.specs.FinMap as map
 use Rattle.byteorder.specs.Endian.{big_bytes}
 use Rattle.lr_base.specs.Bytes.{Reading, Found, Wrong, and_then, count_bytes, count_field, number_field, times}
+use Rattle.lr_base.specs.Insertion.{insert_by}
 use Rattle.lr_base.specs.declared.bytes.BadWhat.TheVariants.{Range, Order}
 use Rattle.lr_words.specs.Tables.{Format, Table, word_bytes, word_field}
 use Rattle.lr_words.specs.Word.{is_word}
@@ -23,10 +24,9 @@ word_format = record { is_value = is_word; written = word_bytes; field = word_fi
 abbrev pub is_up_to : List ℕ → List ℕ → Bool
 is_up_to a b = is_le (slice_cmp nat_cmp a b)
 
--- a word put among words in order, before those that don't stand before it
-abbrev pub put_word : List ℕ → List (List ℕ) → List (List ℕ)
-put_word word [] = word ∷ []
-put_word word (first ∷ rest) = if is_up_to word first then word ∷ first ∷ rest else first ∷ put_word word rest
+-- the words in order with one more, before those that don't stand before it
+abbrev pub insert_word : List ℕ → List (List ℕ) → List (List ℕ)
+insert_word word words = insert_by is_up_to word words
 
 -- a word is up to the first of these, if there is one
 abbrev pub is_up_to_first : List ℕ → List (List ℕ) → Bool
@@ -67,7 +67,7 @@ words_of table name = unwrap_or (map.get table name) []
 
 -- the words with one more at a name
 abbrev pub with_word : Table (List (List ℕ)) → List ℕ → List ℕ → Table (List (List ℕ))
-with_word table name word = map.insert table name (put_word word (words_of table name))
+with_word table name word = map.insert table name (insert_word word (words_of table name))
 
 -- how words are answered: their count, and then each with a space before it
 abbrev pub words_text : List (List ℕ) → List ℕ

@@ -1,5 +1,5 @@
 -- Tables whose names are words stay so: what is put in and taken out, and what is found.
-use Rattle.std.proofs.Common.{◌≡◌, ℕ, Bool, true, false, ◌&&◌, not, nat_lt, cond, T, List, [], ◌∷◌, length, refl, sym, ◌∙◌, ap, arith}
+use Rattle.std.proofs.Common.{◌≡◌, ◌<◌, ℕ, Bool, true, false, ◌&&◌, not, nat_lt, cond, T, List, [], ◌∷◌, length, refl, sym, ◌∙◌, ap, arith}
 use Rattle.std.specs.Prelude.{Option, Some, None, unwrap_or}
 use Rattle.std.specs.List.{list_all}
 use Rattle.std.specs.Ordering.{nat_cmp, eq_by_cmp}
@@ -12,10 +12,11 @@ use Rattle.std.specs.FinMap.Entries.{put, find, find-where_key, where_key, by_or
 use Rattle.std.proofs.lemmas.Bool.{and_parts, lt-ltb}
 use Rattle.std.proofs.lemmas.Cmp.{nat_list_cmp_total}
 use Rattle.lr_words.specs.Changes.{changes-commute, same_name-symm}
-use Rattle.lr_words.specs.Formats.{is_up_to, words_format, words_of, with_word, put_word, are_in_order}
+use Rattle.lr_base.specs.InsertionLaws.{length-inserted}
+use Rattle.lr_words.specs.Formats.{is_up_to, words_format, words_of, with_word, insert_word, are_in_order}
 use Rattle.lr_words.specs.Tables.{Format, Table, is_table}
 use Rattle.lr_words.specs.Word.{is_word}
-use Rattle.lr_words.specs.WordOrder.{put_word-commute, put_word-in_order, put_word-words}
+use Rattle.lr_words.specs.WordOrder.{insert_word-commute, insert_word-in_order, insert_word-words}
 
 -- an entry of a word and a value of the format
 abbrev is_entry : {V : Type 0} → Format V → List ℕ × V → Bool
@@ -112,16 +113,12 @@ module _ {V : Type 0} (format : Format V) where
 -- ---- tables of words in order
 
 -- words with one more are words in order
-words-put : (word : List ℕ) (words : List (List ℕ)) → is_word word ≡ true → list_all is_word words ≡ true → are_in_order words ≡ true → words_format.is_value (put_word word words) ≡ true
-words-put word words is all ordered = rw (some word words, put_word-words word words is all, put_word-in_order word words ordered) refl
+words-inserted : (word : List ℕ) (words : List (List ℕ)) → is_word word ≡ true → list_all is_word words ≡ true → are_in_order words ≡ true → words_format.is_value (insert_word word words) ≡ true
+words-inserted word words is all ordered =
+    rw (lt-ltb 0 _ some, insert_word-words word words is all, insert_word-in_order word words ordered) refl
   where
-    some : (word : List ℕ) (words : List (List ℕ)) → nat_lt 0 (length (put_word word words)) ≡ true
-    some word [] = refl
-    some word (x ∷ words) = go (is_up_to word x)
-      where
-        go : (s : Bool) → nat_lt 0 (length (cond s (word ∷ x ∷ words) (x ∷ put_word word words))) ≡ true
-        go true = lt-ltb 0 _ (omega arith)
-        go false = lt-ltb 0 _ (omega arith)
+    some : 0 < length (insert_word word words)
+    some = omega (arith, length-inserted is_up_to word words)
 
 -- the words of a name are words in order, if there are any
 pub words_of-parts : (table : Table (List (List ℕ))) (name : List ℕ) → is_table words_format table ≡ true → (list_all is_word (words_of table name) ≡ true) × (are_in_order (words_of table name) ≡ true)
@@ -138,8 +135,8 @@ words_of-parts table name all = go (map.get table name) refl
 pub table-with_word : (table : Table (List (List ℕ))) (name word : List ℕ) → is_table words_format table ≡ true → is_word name ≡ true → is_word word ≡ true → is_table words_format (with_word table name word) ≡ true
 table-with_word table name word all named is =
     let parts = words_of-parts table name all in
-    table-insert words_format table name (put_word word (words_of table name)) all named (words-put word (words_of table name) is parts.0 parts.1)
+    table-insert words_format table name (insert_word word (words_of table name)) all named (words-inserted word (words_of table name) is parts.0 parts.1)
 
 -- words more in a table, in either order
 pub with_word-commute : (table : Table (List (List ℕ))) (m n a b : List ℕ) → with_word (with_word table m a) n b ≡ with_word (with_word table n b) m a
-with_word-commute table m n a b = changes-commute table m n (λ found. put_word a (unwrap_or found [])) (λ found. put_word b (unwrap_or found [])) (λ found. put_word-commute b a (unwrap_or found []))
+with_word-commute table m n a b = changes-commute table m n (λ found. insert_word a (unwrap_or found [])) (λ found. insert_word b (unwrap_or found [])) (λ found. insert_word-commute b a (unwrap_or found []))

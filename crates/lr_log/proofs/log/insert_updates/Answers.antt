@@ -1,6 +1,6 @@
 use Rattle.std.proofs.Common.{arith}
 use Rattle.lr_log.proofs.Logs.{updates-more}
-use Rattle.lr_log.proofs.log.put_updates.Goals as goal
+use Rattle.lr_log.proofs.log.insert_updates.Goals as goal
 
 pub loop-update-preserved : goal.loop-update-preserved
 loop-update-preserved g c =

@@ -1,6 +1,6 @@
 use Rattle.std.proofs.Common.{arith}
 use Rattle.lr_log.proofs.Logs.{acks-more}
-use Rattle.lr_log.proofs.log.put_acks.Goals as goal
+use Rattle.lr_log.proofs.log.insert_acks.Goals as goal
 
 pub loop-ack-preserved : goal.loop-ack-preserved
 loop-ack-preserved g c =
