@@ -8,6 +8,7 @@ pub mod Insertion
 pub mod InsertionLaws
 pub mod Kinds
 pub mod Lattice
+pub mod Limits
 pub mod Logged
 pub mod Meaning
 pub mod OrderLaws

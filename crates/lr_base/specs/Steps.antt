@@ -1,5 +1,6 @@
 -- What a replica does with a message, as a function of its state.
-use Rattle.std.specs.Prelude.{ℕ, ◌+◌, ◌^◌, ◌==◌, Bool, true, false, not, nat_lt, if◌then◌else◌, List, [], ◌∷◌, ◌++◌, filter, length}
+use Rattle.std.specs.Prelude.{ℕ, ◌+◌, ◌==◌, Bool, true, false, not, nat_lt, if◌then◌else◌, List, [], ◌∷◌, ◌++◌, filter, length}
+use Rattle.lr_base.specs.Limits.{held_room, last_number, log_room}
 use Rattle.lr_base.specs.Meaning.{Meaning}
 use Rattle.lr_base.specs.Rules.{CausalState, accepted, applied, fresh_of, gossip_of, gossip_taken, held_more, new_count, pruned, stamp_of, update_of_call}
 use Rattle.lr_base.specs.Stamps.{part, stamp_le}
@@ -57,11 +58,11 @@ refusing state why = record { state = state; acts = Say (Refuse why) ∷ [] }
 
 -- whether one more item may be logged
 abbrev pub has_room : {Value Op : Type 0} → CausalState Value Op → Bool
-has_room state = nat_lt (length state.updates + length state.acks) 512
+has_room state = nat_lt (length state.updates + length state.acks) log_room
 
 -- whether this replica may still number an update
 abbrev pub has_number : {Value Op : Type 0} → ℕ → CausalState Value Op → Bool
-has_number me state = nat_lt (part state.rep_ts me) (2 ^ 62)
+has_number me state = nat_lt (part state.rep_ts me) last_number
 
 -- a new call is refused without room or a number, and else accepted
 abbrev pub call_taken : {Value Op : Type 0} → ℕ → CausalState Value Op → Call Op → Bool → Bool → Ending Value Op
@@ -92,7 +93,7 @@ query_held state call true = record { state = held_more state call; acts = Say (
 -- a query is answered where all that its label names is applied
 abbrev pub query_taken : {Value Op : Type 0} → Meaning Value Op → CausalState Value Op → Call Op → Bool → Ending Value Op
 query_taken m state call true = record { state = state; acts = answer_act m state call ∷ [] }
-query_taken m state call false = query_held state call (nat_lt (length state.held) 1024)
+query_taken m state call false = query_held state call (nat_lt (length state.held) held_room)
 
 -- nothing is done
 abbrev pub idle : {Value Op : Type 0} → CausalState Value Op → Ending Value Op

@@ -1,13 +1,12 @@
 //! Multipart timestamps.
 ghost use Rattle.std.specs.Prelude.{⊤, ◌≡◌, ◌<◌, ◌≤◌, length, replicate};
+ghost use Rattle.lr_base.specs.Limits.{most_parts};
 ghost use Rattle.lr_base.specs.Stamps.{part, join, stamp_le, set_part};
 
+use crate::limits::MOST_PARTS;
 use arrayvec::ArrayVec;
 use std::alloc::AllocError;
 use std::marker::Model;
-
-// The most parts that a stamp has: one for each replica, and one for the order.
-const MOST_PARTS: usize = 10;
 
 /// A multipart timestamp: one part for each replica, and a last one for the order. No call takes memory.
 #[derive(Drop)]
@@ -17,19 +16,20 @@ pub struct Stamp {
 
 impl Model for Stamp {
     ghost use Rattle.std.specs.Prelude.{List, ℕ, ◌≤◌, length};
+    ghost use Rattle.lr_base.specs.Limits.{most_parts};
 
     ghost Value = { List ℕ };
 
     ghost view = { λ it. it.parts.items };
 
-    ghost invariant = { λ it. length it.parts.items ≤ 10 };
+    ghost invariant = { λ it. length it.parts.items ≤ most_parts };
 }
 
 impl Stamp {
     /// A stamp of this many parts, all of them 0.
     pub fn zero(parts: u8) -> Stamp
         requires some { 2 ≤ parts }
-        requires most { parts ≤ 10 }
+        requires most { parts ≤ most_parts }
         ensures { result ≡ replicate parts 0 }
     {
         let zeros = [0; MOST_PARTS];
@@ -101,7 +101,7 @@ impl Clone for Stamp {
 
 // These parts, copied at once.
 fn stored(parts: &[u64]) -> ArrayVec<u64, MOST_PARTS>
-    requires { length parts.now ≤ 10 }
+    requires { length parts.now ≤ most_parts }
     ensures { result.items ≡ parts.now }
 {
     let mut items = ArrayVec::new();

@@ -2,17 +2,15 @@
 ghost use Rattle.std.specs.Prelude.{◌≡◌, ◌↔◌, ◌<◌, ◌≤◌, ◌+◌, [], length, filter, find, map, not, position, IsTrue, IfOk, OnOk, OnErr};
 ghost use Rattle.std.specs.Option.{option_map, option_copied};
 ghost use Rattle.std.specs.List.{position_or_len};
+ghost use Rattle.lr_base.specs.Limits.{log_room};
 ghost use Rattle.lr_base.specs.Rules.{is_new as is_new_at, insert_ack, insert_acks as all_acks_inserted, insert_update, insert_updates as all_updates_inserted, same_cid, is_before as spot_is_before};
 ghost use Rattle.lr_log.specs.Items.{Items, item_count};
 
 use crate::received::is_new;
 use lr_base::lr_service::Operation;
-use lr_base::{Cid, LogAck, LogUpdate, NoMemory, Spot, Stamp};
+use lr_base::{Cid, LOG_ROOM, LogAck, LogUpdate, NoMemory, Spot, Stamp};
 use std::alloc::Global;
 use std::marker::Model;
-
-/// How many items a log may hold before a new one is refused.
-pub const LOG_ROOM: usize = 512;
 
 /// The logged updates and acknowledgements, each list in order of place and then number.
 #[derive(Drop)]
@@ -69,7 +67,7 @@ impl<O: Drop> Log<O> {
 
     /// Whether one more item may be logged.
     pub fn has_room(&self) -> bool
-        ensures { IsTrue result ↔ (item_count self.now < LOG_ROOM) }
+        ensures { IsTrue result ↔ (item_count self.now < log_room) }
     {
         let updates = self.updates.len();
         updates < LOG_ROOM && self.acks.len() < LOG_ROOM - updates

@@ -3,6 +3,7 @@ ghost use Rattle.std.specs.Prelude.{◌≡◌, ◌≤◌, ◌↔◌, List, lengt
 ghost use Rattle.lr_base.specs.declared.messages.Known.{Known};
 ghost use Rattle.lr_base.specs.declared.names.Cid.{Cid};
 ghost use Rattle.lr_base.specs.Kinds.{IsQuery, IsUpdate};
+ghost use Rattle.lr_base.specs.Limits.{most_parts};
 ghost use Rattle.lr_base.specs.Logged.{AllLogged};
 ghost use Rattle.lr_base.specs.Rules.{answer_of, waiting};
 ghost use Rattle.lr_base.specs.Stamps.{join};
@@ -35,7 +36,7 @@ impl<S: Service> Value<S> {
     /// The service's start, to which nothing was applied.
     pub fn new(alloc: Global, parts: u8) -> Result<Self, NoMemory>
         requires some { 2 ≤ parts }
-        requires most { parts ≤ 10 }
+        requires most { parts ≤ most_parts }
         ensures value { IfOk result (λ made. made.value ≡ S.meaning.start) }
         ensures val_ts { IfOk result (λ made. made.val_ts ≡ replicate parts 0) }
     {
