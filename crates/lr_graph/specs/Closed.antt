@@ -1,6 +1,6 @@
 -- What holds of acceptances and of sets of them: causes exist, come before, and come along.
 use Rattle.std.specs.Prelude.{◌≡◌, ◌<◌, true, false, not, ◌&&◌, List, [], ◌∷◌}
-pub use Rattle.lr_base.specs.Orders.{IsAmong}
+use Rattle.lr_base.specs.Orders.{IsAmong}
 use Rattle.lr_base.specs.declared.names.Spot.{Spot}
 use Rattle.lr_graph.specs.Graph.{Acceptance}
 use Rattle.lr_graph.specs.Sets.{SpotSet, same_spot}
@@ -34,7 +34,10 @@ HasApartSpots (a ∷ older) = Each (λ b. same_spot b.spot a.spot ≡ false) old
 -- each acceptance is below itself, and its causes were accepted before it
 abbrev pub HasOlderCauses : {Op : Type 0} → List (Acceptance Op) → Type 0
 HasOlderCauses [] = Unit {0}
-HasOlderCauses (a ∷ older) = (a.below a.spot ≡ true) × ((spot : Spot) → causes a spot ≡ true → IsAccepted older spot) × HasOlderCauses older
+HasOlderCauses (a ∷ older) =
+    (a.below a.spot ≡ true)
+    × ((spot : Spot) → causes a spot ≡ true → IsAccepted older spot)
+    × HasOlderCauses older
 
 -- what holds of the acceptances of every history
 pub record IsSound {Op : Type 0} (accepted : List (Acceptance Op)) : Type 0 where
