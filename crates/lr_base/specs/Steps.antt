@@ -3,7 +3,7 @@ use Rattle.std.specs.Prelude.{ℕ, ◌+◌, ◌==◌, Bool, true, false, not, na
 use Rattle.lr_base.specs.Limits.{held_room, last_number, log_room}
 use Rattle.lr_base.specs.Meaning.{Meaning}
 use Rattle.lr_base.specs.Rules.{CausalState, accepted, applied, fresh_of, gossip_of, gossip_taken, held_more, new_count, pruned, stamp_of, update_of_call}
-use Rattle.lr_base.specs.Stamps.{part, stamp_le}
+use Rattle.lr_base.specs.Stamps.{Stamp, part, stamp_le}
 use Rattle.lr_base.specs.declared.events.Outcome.TheVariants.{Accept, Hold, Refuse, Take}
 use Rattle.lr_base.specs.declared.events.Refusal.{Refusal}
 use Rattle.lr_base.specs.declared.events.Refusal.TheVariants.{Late as IsLate, Again as WasTaken, Settled as IsSettled, FullLog, FullHeld, Worn}
@@ -27,7 +27,7 @@ pub record Ending (Value Op : Type 0) : Type 0 where
   pub acts : List (Act Op)
 
 -- the reply to an update, which goes to the client of its call
-abbrev pub done_act : {Op : Type 0} → Cid → Spot → List ℕ → Act Op
+abbrev pub done_act : {Op : Type 0} → Cid → Spot → Stamp → Act Op
 done_act cid spot stamp = Send (Client cid.client) (Done cid spot stamp)
 
 -- the reply to a query: what the service answers, and what it was read after

@@ -1,5 +1,6 @@
 -- What a contract sees of a value with the stamp of what was applied to it, and of applying.
-use Rattle.std.specs.Prelude.{◌≡◌, ℕ, List, length, take}
+use Rattle.std.specs.Prelude.{◌≡◌, List, length, take}
+use Rattle.lr_base.specs.Stamps.{Stamp}
 use Rattle.lr_base.specs.declared.names.Cid.{Cid}
 use Rattle.lr_base.specs.declared.messages.Known.{Known}
 use Rattle.lr_base.specs.declared.messages.LogUpdate.{LogUpdate}
@@ -10,7 +11,7 @@ use Rattle.lr_base.specs.Rules.{Progress, apply_ready, waiting}
 -- the value, and the stamp that stands for the updates applied to it
 pub record Applied (Value : Type 0) : Type 0 where
   pub value : Value
-  pub val_ts : List ℕ
+  pub val_ts : Stamp
 
 -- how far applying has come, by a value and a table of executed calls
 abbrev pub progress : {Value : Type 0} → Applied Value → List (Cid × Known) → Progress Value

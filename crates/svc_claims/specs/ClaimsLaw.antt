@@ -1,8 +1,9 @@
 -- Claims keep the law of services.
-use Rattle.std.proofs.Common.{◌≡◌, ◌<◌, ◌≤◌, ◌^◌, ℕ, Bool, true, false, cond, List, ◌∷◌, ◌++◌, length, refl, ap, arith}
+use Rattle.std.proofs.Common.{◌≡◌, ◌<◌, ◌≤◌, ◌^◌, Bool, true, false, cond, ◌∷◌, ◌++◌, length, refl, ap, arith}
 use Rattle.std.specs.Prelude.{Option, Some, None, is_some, unwrap_or, codes}
 use Rattle.std.specs.FinMap as map
 use Rattle.std.proofs.lemmas.Bool.{and_parts}
+use Rattle.lr_base.specs.Bytes.{Bytes}
 use Rattle.lr_base.specs.Kinds.{IsUpdate, are_ordered}
 use Rattle.lr_base.specs.Meaning.{Lawful, is_printable}
 use Rattle.lr_words.specs.Formats.{word_format, words_format, words_of, words_text}
@@ -88,7 +89,7 @@ value-of : (v : ClaimsValue) → is_table word_format v.owners ≡ true → is_t
 value-of v owners notes = rw (owners, notes) refl
 
 -- a claim leaves a table of words
-claimed-table : (owners : Table (List ℕ)) (name who : List ℕ) → is_table word_format owners ≡ true → is_word name ≡ true → is_word who ≡ true → is_table word_format (claimed owners name who) ≡ true
+claimed-table : (owners : Table Bytes) (name who : Bytes) → is_table word_format owners ≡ true → is_word name ≡ true → is_word who ≡ true → is_table word_format (claimed owners name who) ≡ true
 claimed-table owners name who all named is = go (is_some (map.get owners name))
   where
     go : (owned : Bool) → is_table word_format (cond owned owners (map.insert owners name who)) ≡ true
@@ -111,10 +112,10 @@ stays-of v (Clear name) value is =
 stays-of v (Who name) value is = value
 
 -- an owner, or a dash, is printable
-owner-printable : (owners : Table (List ℕ)) (name : List ℕ) → is_table word_format owners ≡ true → is_printable (unwrap_or (map.get owners name) (codes "-")) ≡ true
+owner-printable : (owners : Table Bytes) (name : Bytes) → is_table word_format owners ≡ true → is_printable (unwrap_or (map.get owners name) (codes "-")) ≡ true
 owner-printable owners name all = go (map.get owners name) refl
   where
-    go : (found : Option (List ℕ)) → map.get owners name ≡ found → is_printable (unwrap_or found (codes "-")) ≡ true
+    go : (found : Option Bytes) → map.get owners name ≡ found → is_printable (unwrap_or found (codes "-")) ≡ true
     go None is = refl
     go (Some owner) is = word-printable owner (table-get word_format owners name owner all is)
 

@@ -1,15 +1,16 @@
 -- Mail keeps the law of services.
-use Rattle.std.proofs.Common.{◌≡◌, ◌<◌, ◌≤◌, ◌+◌, ◌%◌, ◌^◌, ℕ, true, false, ◌&&◌, nat_lt, List, [], ◌∷◌, ◌++◌, length, refl, sym, ap, arith}
+use Rattle.std.proofs.Common.{◌≡◌, ◌<◌, ◌≤◌, ◌+◌, ◌^◌, ℕ, true, false, ◌&&◌, nat_lt, ◌∷◌, ◌++◌, length, refl, sym, ap, arith}
 use Rattle.std.specs.Prelude.{Option, Some, None}
 use Rattle.std.specs.FinMap as map
 use Rattle.std.proofs.Math.Nat.{mod-lt}
 use Rattle.std.proofs.lemmas.Bool.{and_parts, lt-ltb}
+use Rattle.lr_base.specs.Bytes.{Bytes}
 use Rattle.lr_base.specs.Kinds.{IsUpdate, are_ordered}
 use Rattle.lr_base.specs.Meaning.{Lawful, is_printable}
 use Rattle.lr_words.specs.Formats.{number_format, words_format, words_of, words_text, with_word}
 use Rattle.lr_words.specs.Parts.{IsExactFormat, both, both-exact, one_spelling-in, renamed-exact, spelled-in}
 use Rattle.lr_words.specs.TableLaws.{number_format-exact, table-exact, words-exact}
-use Rattle.lr_words.specs.Tables.{Table, is_table, table_of}
+use Rattle.lr_words.specs.Tables.{is_table, table_of}
 use Rattle.lr_words.specs.TableValues.{table-empty, table-insert, table-remove, table-with_word, with_word-commute, words_of-parts}
 use Rattle.lr_words.specs.TextLaws.{apart-at, append-printable, decimal-printable, two-printable, two-short, two-words, word-printable, word-short, words_text-printable}
 use Rattle.lr_words.specs.Word.{is_word}
@@ -18,7 +19,7 @@ use Rattle.svc_mail.specs.declared.op.MailOp.{MailOp}
 use Rattle.svc_mail.specs.declared.op.MailOp.TheVariants.{Send, Add, Delete, Read}
 
 -- a user may get its number before or after a word is sent
-user-sent : (v : MailValue) (user name word : List ℕ) (found : Option ℕ) → with_user (record { last = v.last; users = v.users; boxes = with_word v.boxes name word }) user found ≡ mail_apply (with_user v user found) (Send name word)
+user-sent : (v : MailValue) (user name word : Bytes) (found : Option ℕ) → with_user (record { last = v.last; users = v.users; boxes = with_word v.boxes name word }) user found ≡ mail_apply (with_user v user found) (Send name word)
 user-sent v user name word None = refl
 user-sent v user name word (Some number) = refl
 
@@ -101,7 +102,7 @@ next-below : (v : MailValue) → nat_lt (next_number v) (2 ^ 64) ≡ true
 next-below v = lt-ltb (next_number v) (2 ^ 64) (mod-lt (v.last + 1) (omega arith))
 
 -- a value with a user more is one
-user-stays : (v : MailValue) (user : List ℕ) (found : Option ℕ) → mail_format.is_value v ≡ true → is_word user ≡ true → mail_format.is_value (with_user v user found) ≡ true
+user-stays : (v : MailValue) (user : Bytes) (found : Option ℕ) → mail_format.is_value v ≡ true → is_word user ≡ true → mail_format.is_value (with_user v user found) ≡ true
 user-stays v user (Some number) value is = value
 user-stays v user None value is =
     let parts = value-parts v value in

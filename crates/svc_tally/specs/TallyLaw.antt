@@ -1,10 +1,11 @@
 -- The tally keeps the law of services.
-use Rattle.std.proofs.Common.{◌≡◌, ◌<◌, ◌≤◌, ◌+◌, ◌%◌, ◌^◌, ℕ, true, false, nat_lt, List, ◌∷◌, ◌++◌, length, get_or, refl, sym, ◌∙◌, ap, arith, length-append}
+use Rattle.std.proofs.Common.{◌≡◌, ◌<◌, ◌≤◌, ◌+◌, ◌%◌, ◌^◌, ℕ, true, false, nat_lt, ◌∷◌, ◌++◌, length, get_or, refl, sym, ◌∙◌, ap, arith, length-append}
 use Rattle.std.specs.Prelude.{unwrap_or}
 use Rattle.std.specs.Fmt.{decimal}
 use Rattle.std.proofs.Math.Nat.{mod-add-mod, mod-lt}
 use Rattle.std.proofs.lemmas.Bool.{and_parts, ltb-true, lt-ltb}
 use Rattle.std.proofs.lemmas.Fmt.{decimal_injective}
+use Rattle.lr_base.specs.Bytes.{Bytes}
 use Rattle.lr_base.specs.Kinds.{IsUpdate}
 use Rattle.lr_base.specs.Meaning.{Lawful, is_printable}
 use Rattle.lr_words.specs.Changes.{changes-commute}
@@ -33,7 +34,7 @@ commutes v (Read m) b first second = let no : true ≡ false = first in cc
 commutes v (Add m j) (Read n) first second = let no : true ≡ false = second in cc
 
 -- an amount that passes the test is below 2^64
-amount-fits : (name : List ℕ) (amount : ℕ) → tally_is_op (Add name amount) ≡ true → (is_word name ≡ true) × (amount < 2 ^ 64)
+amount-fits : (name : Bytes) (amount : ℕ) → tally_is_op (Add name amount) ≡ true → (is_word name ≡ true) × (amount < 2 ^ 64)
 amount-fits name amount is =
     let parts = and_parts (is_word name) (nat_lt amount (2 ^ 64)) is in
     (parts.0, ltb-true amount (2 ^ 64) parts.1)
