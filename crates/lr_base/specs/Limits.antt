@@ -1,6 +1,7 @@
 -- Limits: how much of each thing there may be, in the program's constants. Each is pinned to its numeral.
 use Rattle.std.specs.Prelude.{◌≡◌, ◌+◌, ◌^◌, ℕ, refl}
-use Rattle.lr_base.specs.declared.limits.TheConstants.{MOST_REPLICAS, MOST_CLIENTS, MOST_PARTS, LOG_ROOM, HELD_ROOM, MOST_SCRIPT_BYTES, LAST_NUMBER}
+use Rattle.lr_base.specs.declared.limits.TheConstants.{MOST_REPLICAS, MOST_CLIENTS, MOST_PARTS, LOG_ROOM, HELD_ROOM}
+use Rattle.lr_base.specs.declared.limits.TheConstants.{MOST_SCRIPT_BYTES, LAST_NUMBER}
 
 -- how many replicas a run has at the most
 abbrev pub most_replicas : ℕ

@@ -1,5 +1,6 @@
 -- The causal rules of a replica, as functions of its state.
-use Rattle.std.specs.Prelude.{ℕ, ◌+◌, find, filter, get_or, length, set, not, zero, suc, replicate, Bool, ◌&&◌, ◌||◌, ◌==◌, nat_lt, if◌then◌else◌, List, [], ◌∷◌, ◌++◌, Option, Some, None, is_some}
+use Rattle.std.specs.Prelude.{ℕ, ◌+◌, find, filter, get_or, length, set, not, zero, suc, replicate, Bool, ◌&&◌, ◌||◌}
+use Rattle.std.specs.Prelude.{◌==◌, nat_lt, if◌then◌else◌, List, [], ◌∷◌, ◌++◌, Option, Some, None, is_some}
 use Rattle.std.specs.Option.{option_map, option_map_or}
 use Rattle.lr_base.specs.Bytes.{Bytes}
 use Rattle.lr_base.specs.declared.names.Cid.{Cid}
@@ -93,7 +94,8 @@ fresh_of delta state cid time =
 abbrev pub insert_update : {Op : Type 0} → LogUpdate Op → List (LogUpdate Op) → List (LogUpdate Op)
 insert_update u updates = insert_by (λ a b. is_before a.spot b.spot) u updates
 
--- the update that a replica at this place makes of a call: it takes the next number, and comes after the last immediate update
+-- the update that a replica at this place makes of a call: it takes the next number, and comes after the last
+-- immediate update
 abbrev pub update_of_call : {Value Op : Type 0} → ℕ → CausalState Value Op → Call Op → LogUpdate Op
 update_of_call me state call = record {
   spot = record { place = me; number = part state.rep_ts me + 1 };
@@ -140,7 +142,8 @@ insert_ack ack acks = insert_by (λ a b. is_before a.spot b.spot) ack acks
 abbrev pub insert_acks : List LogAck → List LogAck → List LogAck
 insert_acks more acks = insert_all_by (λ a b. is_before a.spot b.spot) more acks
 
--- taking gossip of this replica: what is new is logged, and its stamp is joined to the own one and to the one kept of it
+-- taking gossip of this replica: what is new is logged, and its stamp is joined to the own one and to the one kept of
+-- it
 abbrev pub gossip_taken : {Value Op : Type 0} → ℕ → CausalState Value Op → Gossip Op → CausalState Value Op
 gossip_taken from state gossip = record state {
   rep_ts = join state.rep_ts gossip.rep_ts;
@@ -184,7 +187,8 @@ take_ready val_ts (u ∷ todo) =
     else option_map (λ taken. (taken.0, u ∷ taken.1)) (take_ready val_ts todo)
 
 -- applying the first update whose causes are applied, again and again, so many times at the most
-abbrev pub apply_ready : {Value Op : Type 0} → Meaning Value Op → ℕ → List (LogUpdate Op) → Progress Value → Progress Value
+abbrev pub apply_ready : {Value Op : Type 0} → Meaning Value Op → ℕ → List (LogUpdate Op) → Progress Value
+    → Progress Value
 apply_ready m zero todo p = p
 apply_ready m (suc turns) todo p =
     option_map_or (λ taken. apply_ready m turns taken.1 (apply_one m p taken.0)) (take_ready p.val_ts todo) p

@@ -1,5 +1,6 @@
 -- The laws of the order of stamps, of their join, and of writing a part.
-use Rattle.std.proofs.Common.{◌≡◌, ◌≢◌, ◌<◌, ℕ, zero, suc, max, true, ◌==◌, nat_le, [], ◌∷◌, length, replicate, refl, arith, eq-eqb, eqb-true, leb-true, le-leb}
+use Rattle.std.proofs.Common.{◌≡◌, ◌≢◌, ◌<◌, ℕ, zero, suc, max, true, ◌==◌, nat_le, [], ◌∷◌, length, replicate, refl}
+use Rattle.std.proofs.Common.{arith, eq-eqb, eqb-true, leb-true, le-leb}
 use Rattle.std.proofs.lemmas.Bool.{and_parts}
 use Rattle.lr_base.specs.Stamps.{Stamp, part, join, stamp_le, set_part}
 use Rattle.lr_base.specs.Lattice.{IsLeastAbove, IsPartwise}
@@ -12,7 +13,8 @@ parts-stamp_le (x ∷ a) [] holds zero =
     omega arith
 parts-stamp_le (x ∷ a) [] holds (suc place) = parts-stamp_le a [] (and_parts (x == 0) (stamp_le a []) holds).1 place
 parts-stamp_le (x ∷ a) (y ∷ b) holds zero = leb-true x y (and_parts (nat_le x y) (stamp_le a b) holds).0
-parts-stamp_le (x ∷ a) (y ∷ b) holds (suc place) = parts-stamp_le a b (and_parts (nat_le x y) (stamp_le a b) holds).1 place
+parts-stamp_le (x ∷ a) (y ∷ b) holds (suc place) =
+    parts-stamp_le a b (and_parts (nat_le x y) (stamp_le a b) holds).1 place
 
 -- the order holds where each part is at most its counterpart
 pub stamp_le-parts : (a b : Stamp) → IsPartwise a b → stamp_le a b ≡ true

@@ -1,9 +1,12 @@
 //! What a replica received and keeps: updates and acknowledgements.
-ghost use Rattle.std.specs.Prelude.{◌≡◌, ◌↔◌, ◌<◌, ◌≤◌, ◌+◌, [], length, filter, find, map, not, position, IsTrue, IfOk, OnOk, OnErr};
+ghost use Rattle.std.specs.Prelude.{◌≡◌, ◌↔◌, ◌<◌, ◌≤◌, ◌+◌, not, IsTrue, IfOk, OnOk, OnErr};
+ghost use Rattle.std.specs.Prelude.{[], length, filter, find, map, position};
 ghost use Rattle.std.specs.Option.{option_map, option_copied};
 ghost use Rattle.std.specs.List.{position_or_len};
 ghost use Rattle.lr_base.specs.Limits.{log_room};
-ghost use Rattle.lr_base.specs.Rules.{is_new as is_new_at, insert_ack, insert_acks as all_acks_inserted, insert_update, insert_updates as all_updates_inserted, same_cid, is_before as spot_is_before};
+ghost use Rattle.lr_base.specs.Rules.{is_before as spot_is_before, is_new as is_new_at, same_cid};
+ghost use Rattle.lr_base.specs.Rules.{insert_ack, insert_acks as all_acks_inserted};
+ghost use Rattle.lr_base.specs.Rules.{insert_update, insert_updates as all_updates_inserted};
 ghost use Rattle.lr_log.specs.Items.{Items, item_count};
 
 use crate::received::is_new;
@@ -151,7 +154,10 @@ impl<O: Operation> Log<O> {
 
     /// Logs these items. Where there is none it takes no memory.
     pub fn add_all(&mut self, updates: &[&LogUpdate<O>], acks: &[LogAck]) -> Result<(), NoMemory>
-        ensures ok { OnOk result (self.new ≡ record self.old { updates = all_updates_inserted (map (λ u. u.now) updates.now) self.old.updates; acks = all_acks_inserted acks.now self.old.acks }) }
+        ensures ok { OnOk result (self.new ≡ record self.old {
+          updates = all_updates_inserted (map (λ u. u.now) updates.now) self.old.updates;
+          acks = all_acks_inserted acks.now self.old.acks;
+        }) }
         ensures err { OnErr result (self.new ≡ self.old) }
     {
         if updates.is_empty() && acks.is_empty() {
@@ -166,7 +172,9 @@ impl<O: Operation> Log<O> {
 }
 
 fn insert_updates<O: Operation>(log: &mut Log<O>, updates: &[&LogUpdate<O>]) -> Result<(), NoMemory>
-    ensures { OnOk result (log.new ≡ record log.old { updates = all_updates_inserted (map (λ u. u.now) updates.now) log.old.updates }) }
+    ensures { OnOk result (log.new ≡ record log.old {
+      updates = all_updates_inserted (map (λ u. u.now) updates.now) log.old.updates;
+    }) }
 {
     for update in updates {
         log.add_update(update.copy()?)?;

@@ -21,7 +21,8 @@ progress applied calls = record { value = applied.value; val_ts = applied.val_ts
 abbrev pub all_ready : {Value Op : Type 0} → Meaning Value Op → List (LogUpdate Op) → Progress Value → Progress Value
 all_ready m updates p = let todo = waiting p.val_ts updates in apply_ready m (length todo) todo p
 
--- applying went on, however far: the stamp has its parts, no call left the table, and stamps of calls have those parts too
+-- applying went on, however far: the stamp has its parts, no call left the table, and stamps of calls have those
+-- parts too
 pub record GoesOn {Value : Type 0} (before after : Progress Value) : Type 0 where
   pub parts : length after.val_ts ≡ length before.val_ts
   pub grown : take (length before.calls) after.calls ≡ before.calls

@@ -12,8 +12,10 @@ behind references = map (λ u. u.now) references
 
 -- the one at this index is the first whose causes are applied
 abbrev pub TakesAt : {Op : Type 0} → Stamp → List (LogUpdate Op) → ℕ → Type 0
-TakesAt {Op} val_ts todo at = (u : LogUpdate Op) → slice_get todo at ≡ Some u → take_ready val_ts todo ≡ Some (u, remove todo at)
+TakesAt {Op} val_ts todo at = (u : LogUpdate Op) → slice_get todo at ≡ Some u
+    → take_ready val_ts todo ≡ Some (u, remove todo at)
 
 -- none of the updates that aren't applied to a value with this stamp has its causes applied
 abbrev pub NoneReady : {Op : Type 0} → Stamp → List (LogUpdate Op) → Type 0
-NoneReady val_ts updates = (k : ℕ) → ForSome (slice_get updates k) (λ u. is_covered val_ts u ≡ false → stamp_le u.prev val_ts ≡ false)
+NoneReady val_ts updates = (k : ℕ)
+    → ForSome (slice_get updates k) (λ u. is_covered val_ts u ≡ false → stamp_le u.prev val_ts ≡ false)

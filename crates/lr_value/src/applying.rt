@@ -1,8 +1,10 @@
 //! Applying logged updates to a value, each call once.
-ghost use Rattle.std.specs.Prelude.{◌≡◌, ◌↔◌, ◌&&◌, ◌<◌, ◌≤◌, ◌++◌, ◌∷◌, [], None, length, not, IsNone, IsTrue, IfSome, IfOk, OnOk, OnErr};
+ghost use Rattle.std.specs.Prelude.{◌≡◌, ◌↔◌, ◌<◌, ◌≤◌, ◌&&◌, not, [], ◌∷◌, ◌++◌, length, None};
+ghost use Rattle.std.specs.Prelude.{IsNone, IsTrue, IfSome, IfOk, OnOk, OnErr};
 ghost use Rattle.lr_base.specs.Kinds.{IsUpdate};
 ghost use Rattle.lr_base.specs.Logged.{AllFit, Fits, AllLogged, IsLogged};
-ghost use Rattle.lr_base.specs.Rules.{apply_one, apply_ready as rule, is_covered, known_of, take_ready, waiting as waiting_of};
+ghost use Rattle.lr_base.specs.Rules.{apply_one, apply_ready as rule, is_covered, known_of, take_ready};
+ghost use Rattle.lr_base.specs.Rules.{waiting as waiting_of};
 ghost use Rattle.lr_base.specs.Stamps.{stamp_le};
 ghost use Rattle.lr_value.specs.Applied.{GoesOn, all_ready, progress};
 ghost use Rattle.lr_value.specs.Waiting.{behind, NoneReady, TakesAt};

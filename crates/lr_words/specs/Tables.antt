@@ -1,5 +1,6 @@
 -- Tables: values by name, and how they stand in bytes.
-use Rattle.std.specs.Prelude.{ℕ, Bool, true, ◌&&◌, nat_lt, nat_le, if◌then◌else◌, ◌∷◌, ◌++◌, length, take, drop, Option, Some, None, flat_map}
+use Rattle.std.specs.Prelude.{ℕ, Bool, true, ◌&&◌, nat_lt, nat_le, if◌then◌else◌, ◌∷◌, ◌++◌, length, take, drop}
+use Rattle.std.specs.Prelude.{Option, Some, None, flat_map}
 use Rattle.std.specs.List.{list_all}
 use Rattle.std.specs.Ordering.{nat_cmp, is_lt}
 use Rattle.std.specs.Cmp.Lexicographic.{slice_cmp}
@@ -42,7 +43,8 @@ is_behind (Some last) name = is_lt (slice_cmp nat_cmp last.0 name)
 -- an entry: a name behind the one before it, and its value
 abbrev pub entry_field : {V : Type 0} → Format V → Option (Bytes × V) → Bytes → Reading (Bytes × V)
 entry_field format last bytes = and_then (word_field bytes) (λ name rest.
-    if is_behind last name then and_then (format.field rest) (λ value end. Found (name, value) end) else Wrong (length bytes) Order)
+    if is_behind last name then and_then (format.field rest) (λ value end. Found (name, value) end)
+    else Wrong (length bytes) Order)
 
 -- a table: the count of its entries, and then these
 abbrev pub table_field : {V : Type 0} → Format V → Bytes → Reading (Table V)

@@ -47,7 +47,8 @@ up_to-trans a b c first second = go (compared a b) (compared b c) refl refl
     go Equal p is next = ap is_le (nat_list_cmp_total.congr a b c is) ∙ second
     go Greater p is next = let no : false ≡ true = ap is_le (sym is) ∙ first in cc
     go Less Less is next = ap is_le (nat_list_cmp_total.trans a b c is next)
-    go Less Equal is next = ap (λ word. is_up_to a word) (sym (slice_cmp-IsAntisymmetric nat_cmp-IsAntisymmetric b c next)) ∙ first
+    go Less Equal is next = ap (λ word. is_up_to a word)
+        (sym (slice_cmp-IsAntisymmetric nat_cmp-IsAntisymmetric b c next)) ∙ first
     go Less Greater is next = let no : false ≡ true = ap is_le (sym next) ∙ second in cc
 
 -- words that compare alike both ways are one
@@ -59,23 +60,27 @@ up_to-one a b alike = go (is_up_to a b) refl
     go false is = let no : false ≡ true = sym is ∙ alike ∙ up_to-other a b is in cc
 
 -- which of two words is inserted first makes no difference
-pub insert_word-commute : (a b : Bytes) (words : List Bytes) → insert_word a (insert_word b words) ≡ insert_word b (insert_word a words)
+pub insert_word-commute : (a b : Bytes) (words : List Bytes)
+    → insert_word a (insert_word b words) ≡ insert_word b (insert_word a words)
 insert_word-commute a b words = inserted-commute is_up_to up_to-one up_to-trans a b words
 
 -- words with one more inserted are words
-pub insert_word-words : (a : Bytes) (words : List Bytes) → is_word a ≡ true → list_all is_word words ≡ true → list_all is_word (insert_word a words) ≡ true
+pub insert_word-words : (a : Bytes) (words : List Bytes) → is_word a ≡ true → list_all is_word words ≡ true
+    → list_all is_word (insert_word a words) ≡ true
 insert_word-words a [] is all = rw is refl
 insert_word-words a (x ∷ words) is all = go (insert_word-words a words is parts.1) (is_up_to a x)
   where
     parts : (is_word x ≡ true) × (list_all is_word words ≡ true)
     parts = and_parts (is_word x) (list_all is_word words) all
 
-    go : list_all is_word (insert_word a words) ≡ true → (s : Bool) → list_all is_word (cond s (a ∷ x ∷ words) (x ∷ insert_word a words)) ≡ true
+    go : list_all is_word (insert_word a words) ≡ true → (s : Bool)
+        → list_all is_word (cond s (a ∷ x ∷ words) (x ∷ insert_word a words)) ≡ true
     go below true = rw (is, parts.0, parts.1) refl
     go below false = rw (parts.0, below) refl
 
 -- a word that is up to the others and to one more stays the first
-first-inserted : (x a : Bytes) (words : List Bytes) → is_up_to x a ≡ true → is_up_to_first x words ≡ true → is_up_to_first x (insert_word a words) ≡ true
+first-inserted : (x a : Bytes) (words : List Bytes) → is_up_to x a ≡ true → is_up_to_first x words ≡ true
+    → is_up_to_first x (insert_word a words) ≡ true
 first-inserted x a [] up first = up
 first-inserted x a (y ∷ words) up first = go (is_up_to a y)
   where
@@ -84,13 +89,15 @@ first-inserted x a (y ∷ words) up first = go (is_up_to a y)
     go false = first
 
 -- words in order stay in order
-pub insert_word-in_order : (a : Bytes) (words : List Bytes) → are_in_order words ≡ true → are_in_order (insert_word a words) ≡ true
+pub insert_word-in_order : (a : Bytes) (words : List Bytes) → are_in_order words ≡ true
+    → are_in_order (insert_word a words) ≡ true
 insert_word-in_order a [] ordered = refl
 insert_word-in_order a (x ∷ words) ordered = go (insert_word-in_order a words parts.1) (is_up_to a x) refl
   where
     parts : (is_up_to_first x words ≡ true) × (are_in_order words ≡ true)
     parts = and_parts (is_up_to_first x words) (are_in_order words) ordered
 
-    go : are_in_order (insert_word a words) ≡ true → (s : Bool) → is_up_to a x ≡ s → are_in_order (cond s (a ∷ x ∷ words) (x ∷ insert_word a words)) ≡ true
+    go : are_in_order (insert_word a words) ≡ true → (s : Bool) → is_up_to a x ≡ s
+        → are_in_order (cond s (a ∷ x ∷ words) (x ∷ insert_word a words)) ≡ true
     go below true up = rw (up, parts.0, parts.1) refl
     go below false up = rw (first-inserted x a words (up_to-other a x up) parts.0, below) refl

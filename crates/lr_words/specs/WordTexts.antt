@@ -1,5 +1,6 @@
 -- How a word stands in a text: it holds no space, so the first space ends it.
-use Rattle.std.proofs.Common.{◌≡◌, ◌≢◌, ◌≤◌, ℕ, zero, suc, true, false, ◌&&◌, nat_le, [], ◌∷◌, ◌++◌, length, get_or, refl, sym, ◌∙◌, ap, leb-true}
+use Rattle.std.proofs.Common.{◌≡◌, ◌≢◌, ◌≤◌, ℕ, zero, suc, true, false, ◌&&◌, nat_le, [], ◌∷◌, ◌++◌, length, get_or}
+use Rattle.std.proofs.Common.{refl, sym, ◌∙◌, ap, leb-true}
 use Rattle.std.specs.List.{list_all}
 use Rattle.std.proofs.lemmas.Bool.{and_parts}
 use Rattle.lr_base.specs.Bytes.{Bytes}
@@ -16,10 +17,12 @@ bytes-no_space (x ∷ text) pass zero = λ space.
     let byte : is_word_byte x ≡ true = (and_parts (is_word_byte x) (list_all is_word_byte text) pass).0 in
     let none : false ≡ true = ap is_word_byte (sym space) ∙ byte in
     cc
-bytes-no_space (x ∷ text) pass (suc k) = bytes-no_space text (and_parts (is_word_byte x) (list_all is_word_byte text) pass).1 k
+bytes-no_space (x ∷ text) pass (suc k) =
+    bytes-no_space text (and_parts (is_word_byte x) (list_all is_word_byte text) pass).1 k
 
 -- the parts of the test of a word
-pub is_word-parts : (text : Bytes) → is_word text ≡ true → (1 ≤ length text) × (length text ≤ 16) × (list_all is_word_byte text ≡ true)
+pub is_word-parts : (text : Bytes) → is_word text ≡ true → (1 ≤ length text) × (length text ≤ 16)
+    × (list_all is_word_byte text ≡ true)
 is_word-parts text word =
     let parts = and_parts (nat_le 1 (length text) && nat_le (length text) 16) (list_all is_word_byte text) word in
     let bounds = and_parts (nat_le 1 (length text)) (nat_le (length text) 16) parts.0 in

@@ -1,5 +1,6 @@
 //! Words in order, as they stand behind one name.
-ghost use Rattle.std.specs.Prelude.{◌≡◌, ◌≤◌, ◌<◌, ◌++◌, ◌∷◌, [], ℕ, List, None, length, flat_map, true, IfOk, OnOk, OnErr};
+ghost use Rattle.std.specs.Prelude.{◌≡◌, ◌≤◌, ◌<◌, ℕ, true, None, IfOk, OnOk, OnErr};
+ghost use Rattle.std.specs.Prelude.{List, [], ◌∷◌, ◌++◌, length, flat_map};
 ghost use Rattle.std.specs.List.{insert, list_all};
 ghost use Rattle.lr_base.specs.Bytes.{Reads, times};
 ghost use Rattle.lr_words.specs.Tables.{word_bytes};
