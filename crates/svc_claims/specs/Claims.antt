@@ -29,7 +29,8 @@ claims_kind (Who name) = Query
 abbrev pub claimed : Table Bytes → Bytes → Bytes → Table Bytes
 claimed owners name who = if is_some (map.get owners name) then owners else map.insert owners name who
 
--- a note comes among those of its name, a claim gives an owner where there is none, and clearing takes owner and notes away
+-- a note comes among those of its name, a claim gives an owner where there is none, and clearing takes owner and
+-- notes away
 abbrev pub claims_apply : ClaimsValue → ClaimsOp → ClaimsValue
 claims_apply v (Note name word) = record { owners = v.owners; notes = with_word v.notes name word }
 claims_apply v (Claim name who) = record { owners = claimed v.owners name who; notes = v.notes }
@@ -41,7 +42,8 @@ abbrev pub claims_read : ClaimsValue → ClaimsOp → Bytes
 claims_read v (Note name word) = []
 claims_read v (Claim name who) = []
 claims_read v (Clear name) = []
-claims_read v (Who name) = unwrap_or (map.get v.owners name) (codes "-") ++ (codes " " ++ words_text (words_of v.notes name))
+claims_read v (Who name) = unwrap_or (map.get v.owners name) (codes "-")
+    ++ (codes " " ++ words_text (words_of v.notes name))
 
 -- names, notes and owners are words
 abbrev pub claims_is_op : ClaimsOp → Bool
@@ -71,7 +73,9 @@ word_code = coded_list coded_ℕ
 
 -- the proofs' code of a value, by which they tell it from others
 abbrev pub claims_code : Coded ClaimsValue
-claims_code = code_by (Table Bytes × Table (List Bytes)) (coded× (map.code word_code word_code) (map.code word_code (coded_list word_code))) tables_of of_tables (λ v. refl)
+claims_code = code_by (Table Bytes
+    × Table (List Bytes)) (coded× (map.code word_code word_code) (map.code word_code (coded_list word_code)))
+    tables_of of_tables (λ v. refl)
 
 -- a value stands in bytes as its owners and then its notes
 abbrev pub claims_format : Format ClaimsValue

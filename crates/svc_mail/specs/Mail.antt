@@ -33,7 +33,11 @@ next_number v = (v.last + 1) % 2 ^ 64
 
 -- an unknown user gets the next number, a known one keeps its own
 abbrev pub with_user : MailValue → Bytes → Option ℕ → MailValue
-with_user v user None = record { last = next_number v; users = map.insert v.users user (next_number v); boxes = v.boxes }
+with_user v user None = record {
+  last = next_number v;
+  users = map.insert v.users user (next_number v);
+  boxes = v.boxes;
+}
 with_user v user (Some number) = v
 
 -- a word comes among those of its box, a user gets a number, and deleting takes number and box away
@@ -83,7 +87,9 @@ word_code = coded_list coded_ℕ
 
 -- the proofs' code of a value, by which they tell it from others
 abbrev pub mail_code : Coded MailValue
-mail_code = code_by (ℕ × (Table ℕ × Table (List Bytes))) (coded× coded_ℕ (coded× (map.code word_code coded_ℕ) (map.code word_code (coded_list word_code)))) parts_of of_parts (λ v. refl)
+mail_code = code_by (ℕ × (Table ℕ × Table (List Bytes)))
+    (coded× coded_ℕ (coded× (map.code word_code coded_ℕ) (map.code word_code (coded_list word_code)))) parts_of
+    of_parts (λ v. refl)
 
 -- a value stands in bytes as its last number, its users and then its boxes
 abbrev pub mail_format : Format MailValue
