@@ -6,6 +6,3 @@ mod received;
 
 pub use log::Log;
 pub use received::{is_new, part_or_zero};
-
-#[cfg(test)]
-mod tests;

@@ -1,10 +1,8 @@
 -- Tables of executed calls.
-use Rattle.std.proofs.Common.{◌≡◌, ◌≤◌, ◌∙◌, Bool, true, false, List, [], ◌∷◌, ◌++◌, ap, arith, length, Option, Some, None, is_some, refl, subst, sym, take, ℕ}
+use Rattle.std.proofs.Common.{◌≡◌, ◌≤◌, ◌∙◌, Bool, true, false, List, [], ◌∷◌, ◌++◌, ap, arith, length, Some, None, refl, subst, sym, take, ℕ}
 use Rattle.std.proofs.Math.Seq.{take-take, take-length}
 use Rattle.std.proofs.lemmas.List.{length-take}
-use Rattle.std.specs.Prelude.{find}
-use Rattle.std.specs.Borrow.{Bor}
-use Rattle.std.specs.Option.{ForSome, option_copied}
+use Rattle.std.specs.Option.{ForSome}
 use Rattle.lr_base.specs.declared.names.Cid.{Cid}
 use Rattle.lr_base.specs.declared.messages.Known.{Known}
 use Rattle.lr_base.specs.Rules.{Progress, same_cid, known_of}
@@ -27,20 +25,6 @@ known_of-entered P (e ∷ calls) cid q known before own = go (same_cid q e.0) re
 -- a table with one more call, whose stamp has as many parts
 pub AllKnown-entered : (parts : ℕ) (calls new : List (Cid × Known)) (cid : Cid) (known : Known) → new ≡ calls ++ (cid, known) ∷ [] → length known.stamp ≡ parts → AllKnown parts calls → AllKnown parts new
 AllKnown-entered parts calls new cid known is long all = rw is (λ q. known_of-entered (λ k. length k.stamp ≡ parts) calls cid q known (all q) long)
-
--- a call is known where an entry of it is found
-pub found_known : (entries : List (Cid × Known)) (cid : Cid) → is_some (find (λ e. same_cid cid e.0) entries) ≡ is_some (known_of entries cid)
-found_known [] cid = refl
-found_known (e ∷ entries) cid = go (same_cid cid e.0) refl (found_known entries cid)
-  where
-    go : (same : Bool) → same_cid cid e.0 ≡ same → is_some (find (λ e. same_cid cid e.0) entries) ≡ is_some (known_of entries cid) → is_some (find (λ e. same_cid cid e.0) (e ∷ entries)) ≡ is_some (known_of (e ∷ entries) cid)
-    go true is later = rw is refl
-    go false is later = rw is later
-
--- what a reference points to is there where the reference is
-pub some-copied : {A : Type 0} (found : Option (Bor A)) → is_some (option_copied found) ≡ is_some found
-some-copied None = refl
-some-copied (Some found) = refl
 
 -- a list that begins with another has as many elements at least
 within-front : {X : Type 0} (front all : List X) → take (length front) all ≡ front → length front ≤ length all

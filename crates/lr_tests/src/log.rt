@@ -1,7 +1,7 @@
 //! The calls of a log, with lists worked out by hand.
-use crate::Log;
 use lr_base::lr_service::Service;
 use lr_base::{Cid, LOG_ROOM, LogAck, LogUpdate, Spot, Stamp};
+use lr_log::Log;
 use std::alloc::Global;
 use std::process::Abort;
 use std::test::Fail;

@@ -1,7 +1,7 @@
 use Rattle.std.specs.Prelude.{is_ok}
 use Rattle.svc_tally.specs.Tally.{tally_kind}
-use Rattle.lr_value.proofs.Facts.{AllLogged-pushed}
-use Rattle.lr_value.proofs.tests.Updates.push.Goals as goal
+use Rattle.lr_tests.proofs.Lists.{AllLogged-pushed}
+use Rattle.lr_tests.proofs.value.Updates.push.Goals as goal
 
 pub invariant_of-self : goal.invariant_of-self
 invariant_of-self c =

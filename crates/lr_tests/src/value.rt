@@ -4,9 +4,9 @@ ghost use Rattle.std.specs.Option.{option_copied};
 ghost use Rattle.lr_base.specs.Logged.{AllLogged, IsLogged};
 ghost use Rattle.lr_base.specs.Rules.{same_cid};
 
-use crate::Value;
 use lr_base::lr_service::{Kind, Operation, Service};
 use lr_base::{Cid, Executed, Known, LogUpdate, NoMemory, Spot, Stamp, Text};
+use lr_value::Value;
 use std::alloc::Global;
 use std::process::Abort;
 use std::test::Fail;
