@@ -1,25 +1,25 @@
 -- The laws of stamps: what their order is, what their join is, and what writing a part changes.
-use Rattle.std.specs.Prelude.{◌≡◌, ◌≤◌, ℕ, Bool, true, List, length}
-use Rattle.lr_base.specs.Stamps.{part, stamp_le}
+use Rattle.std.specs.Prelude.{◌≡◌, ◌≤◌, ℕ, Bool, true, length}
+use Rattle.lr_base.specs.Stamps.{Stamp, part, stamp_le}
 
 -- each part of a is at most its counterpart in b
-abbrev pub IsPartwise : List ℕ → List ℕ → Type 0
+abbrev pub IsPartwise : Stamp → Stamp → Type 0
 IsPartwise a b = (place : ℕ) → part a place ≤ part b place
 
 -- a test of two stamps that orders those with one count of parts
-pub record IsOrder (at_most : List ℕ → List ℕ → Bool) : Type 0 where
-  pub reflexive : (a : List ℕ) → at_most a a ≡ true
-  pub transitive : (a b c : List ℕ) → at_most a b ≡ true → at_most b c ≡ true → at_most a c ≡ true
-  pub antisymmetric : (a b : List ℕ) → length a ≡ length b → at_most a b ≡ true → at_most b a ≡ true → a ≡ b
+pub record IsOrder (at_most : Stamp → Stamp → Bool) : Type 0 where
+  pub reflexive : (a : Stamp) → at_most a a ≡ true
+  pub transitive : (a b c : Stamp) → at_most a b ≡ true → at_most b c ≡ true → at_most a c ≡ true
+  pub antisymmetric : (a b : Stamp) → length a ≡ length b → at_most a b ≡ true → at_most b a ≡ true → a ≡ b
 
 -- c is above a and above b, and at most every stamp above both
-pub record IsLeastAbove (a b c : List ℕ) : Type 0 where
+pub record IsLeastAbove (a b c : Stamp) : Type 0 where
   pub above_first : stamp_le a c ≡ true
   pub above_second : stamp_le b c ≡ true
-  pub least : (d : List ℕ) → stamp_le a d ≡ true → stamp_le b d ≡ true → stamp_le c d ≡ true
+  pub least : (d : Stamp) → stamp_le a d ≡ true → stamp_le b d ≡ true → stamp_le c d ≡ true
 
 -- a way to make one stamp of two, in which neither order nor repetition counts
-pub record IsMerge (merge : List ℕ → List ℕ → List ℕ) : Type 0 where
-  pub commutative : (a b : List ℕ) → merge a b ≡ merge b a
-  pub associative : (a b c : List ℕ) → merge (merge a b) c ≡ merge a (merge b c)
-  pub idempotent : (a : List ℕ) → merge a a ≡ a
+pub record IsMerge (merge : Stamp → Stamp → Stamp) : Type 0 where
+  pub commutative : (a b : Stamp) → merge a b ≡ merge b a
+  pub associative : (a b c : Stamp) → merge (merge a b) c ≡ merge a (merge b c)
+  pub idempotent : (a : Stamp) → merge a a ≡ a

@@ -4,8 +4,11 @@ pub mod Bytes
 pub mod Config
 pub mod Events
 pub mod Fronts
+pub mod Insertion
+pub mod InsertionLaws
 pub mod Kinds
 pub mod Lattice
+pub mod Limits
 pub mod Logged
 pub mod Meaning
 pub mod OrderLaws

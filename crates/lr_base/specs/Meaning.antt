@@ -1,29 +1,32 @@
 -- What a service's operations mean, and the law that every service keeps.
-use Rattle.std.specs.Prelude.{◌≡◌, ℕ, ◌<◌, ◌≤◌, ◌^◌, Bool, true, false, ◌&&◌, nat_le, List, length}
+use Rattle.std.specs.Prelude.{◌≡◌, ◌<◌, ◌≤◌, ◌^◌, Bool, true, false, ◌&&◌, nat_le, length}
 use Rattle.std.specs.List.{list_all}
-use Rattle.lr_base.specs.Bytes.{Decoded, Good, are_bytes}
+use Rattle.lr_base.specs.Bytes.{Bytes, Decoded, Good, are_bytes}
 use Rattle.lr_base.specs.declared.lr_service.Kind.{Kind}
 use Rattle.lr_base.specs.Kinds.{IsUpdate, are_ordered}
 
--- a value and the operations on it: where it starts, what each operation does, answers and is written as; and how values are spelled in bytes
+-- a value and the operations on it: where it starts, what each operation does, answers and is written as; and how
+-- values are spelled in bytes
 pub record Meaning (Value Op : Type 0) : Type 0 where
   pub start : Value
   pub kind : Op → Kind
   pub apply : Value → Op → Value
-  pub read : Value → Op → List ℕ
+  pub read : Value → Op → Bytes
   pub is_op : Op → Bool
-  pub text : Op → List ℕ
+  pub text : Op → Bytes
   pub is_value : Value → Bool
-  pub spelling : Value → List ℕ
-  pub decoded : List ℕ → Decoded Value
+  pub spelling : Value → Bytes
+  pub decoded : Bytes → Decoded Value
 
 -- each byte is a printable one, from the space to the tilde
-abbrev pub is_printable : List ℕ → Bool
+abbrev pub is_printable : Bytes → Bool
 is_printable bytes = list_all (λ byte. nat_le 32 byte && nat_le byte 126) bytes
 
--- two updates commute unless one is immediate or both are forced; each operation has one text, which fits a line; and each value that operations make has one spelling, and printable answers
+-- two updates commute unless one is immediate or both are forced; each operation has one text, which fits a line; and
+-- each value that operations make has one spelling, and printable answers
 pub record Lawful {Value Op : Type 0} (m : Meaning Value Op) (kind_of : Op → Kind) : Type 0 where
-  pub commute : (v : Value) (a b : Op) → IsUpdate (m.kind a) → IsUpdate (m.kind b) → are_ordered (m.kind a) (m.kind b) ≡ false → m.apply (m.apply v a) b ≡ m.apply (m.apply v b) a
+  pub commute : (v : Value) (a b : Op) → IsUpdate (m.kind a) → IsUpdate (m.kind b)
+      → are_ordered (m.kind a) (m.kind b) ≡ false → m.apply (m.apply v a) b ≡ m.apply (m.apply v b) a
   pub kinds : (op : Op) → m.kind op ≡ kind_of op
   pub one_text : (a b : Op) → m.is_op a ≡ true → m.is_op b ≡ true → m.text a ≡ m.text b → a ≡ b
   pub some_text : (op : Op) → m.is_op op ≡ true → 1 ≤ length (m.text op)
@@ -33,4 +36,5 @@ pub record Lawful {Value Op : Type 0} (m : Meaning Value Op) (kind_of : Op → K
   pub stays : (v : Value) (op : Op) → m.is_value v ≡ true → m.is_op op ≡ true → m.is_value (m.apply v op) ≡ true
   pub printable_answer : (v : Value) (op : Op) → m.is_value v ≡ true → is_printable (m.read v op) ≡ true
   pub spelled : (v : Value) → m.is_value v ≡ true → length (m.spelling v) < 2 ^ 64 → m.decoded (m.spelling v) ≡ Good v
-  pub one_spelling : (bytes : List ℕ) (v : Value) → are_bytes bytes ≡ true → m.decoded bytes ≡ Good v → (m.spelling v ≡ bytes) × (m.is_value v ≡ true)
+  pub one_spelling : (bytes : Bytes) (v : Value) → are_bytes bytes ≡ true → m.decoded bytes ≡ Good v
+      → (m.spelling v ≡ bytes) × (m.is_value v ≡ true)

@@ -40,12 +40,14 @@ abbrev pub Commute : {Value Op : Type 0} → Meaning Value Op → Op → Op → 
 Commute {Value} m a b = (v : Value) → m.apply (m.apply v a) b ≡ m.apply (m.apply v b) a
 
 -- each two updates of an order commute, or the other order agrees on them
-abbrev pub AgreeUnlessCommuting : {Value Op Key : Type 0} → Meaning Value Op → List (Keyed Key Op) → List (Keyed Key Op) → Type 0
+abbrev pub AgreeUnlessCommuting : {Value Op Key : Type 0} → Meaning Value Op → List (Keyed Key Op)
+    → List (Keyed Key Op) → Type 0
 AgreeUnlessCommuting {Value} {Op} {Key} m one other =
     (a b : Keyed Key Op) → IsAmong a one → IsAmong b one → Commute m a.op b.op ⊎ (IsBefore a b one → IsBefore a b other)
 
 -- the other order agrees on each two updates whose kinds need one order
-abbrev pub AgreeWhereOrdered : {Value Op Key : Type 0} → Meaning Value Op → List (Keyed Key Op) → List (Keyed Key Op) → Type 0
+abbrev pub AgreeWhereOrdered : {Value Op Key : Type 0} → Meaning Value Op → List (Keyed Key Op) → List (Keyed Key Op)
+    → Type 0
 AgreeWhereOrdered {Value} {Op} {Key} m one other =
     (a b : Keyed Key Op) → are_ordered (m.kind a.op) (m.kind b.op) ≡ true → IsBefore a b one → IsBefore a b other
 

@@ -16,7 +16,11 @@ pub record ReplicaState (Value Op : Type 0) : Type 0 where
 
 -- a replica at which nothing has happened
 abbrev pub first_replica : {Value Op : Type 0} → Meaning Value Op → Config → ℕ → ReplicaState Value Op
-first_replica m config me = record { config = config; me = me; causal = first_state m config.replicas (config.replicas + 1) }
+first_replica m config me = record {
+  config = config;
+  me = me;
+  causal = first_state m config.replicas (config.replicas + 1);
+}
 
 -- a replica of this run, at its place
 pub record IsReplica {Value Op : Type 0} (config : Config) (place : ℕ) (replica : ReplicaState Value Op) : Type 0 where

@@ -1,6 +1,8 @@
 -- The causal rules of a replica, as functions of its state.
-use Rattle.std.specs.Prelude.{ℕ, ◌+◌, find, filter, get_or, length, set, not, zero, suc, replicate, Bool, ◌&&◌, ◌||◌, ◌==◌, nat_lt, if◌then◌else◌, List, [], ◌∷◌, ◌++◌, Option, Some, None, is_some}
+use Rattle.std.specs.Prelude.{ℕ, ◌+◌, find, filter, get_or, length, set, not, zero, suc, replicate, Bool, ◌&&◌, ◌||◌}
+use Rattle.std.specs.Prelude.{◌==◌, nat_lt, if◌then◌else◌, List, [], ◌∷◌, ◌++◌, Option, Some, None, is_some}
 use Rattle.std.specs.Option.{option_map, option_map_or}
+use Rattle.lr_base.specs.Bytes.{Bytes}
 use Rattle.lr_base.specs.declared.names.Cid.{Cid}
 use Rattle.lr_base.specs.declared.names.Spot.{Spot}
 use Rattle.lr_base.specs.declared.messages.Call.{Call}
@@ -10,8 +12,9 @@ use Rattle.lr_base.specs.declared.messages.Fresh.TheVariants.{New, Late, Again, 
 use Rattle.lr_base.specs.declared.messages.Known.{Known}
 use Rattle.lr_base.specs.declared.messages.LogAck.{LogAck}
 use Rattle.lr_base.specs.declared.messages.LogUpdate.{LogUpdate}
+use Rattle.lr_base.specs.Insertion.{insert_all_by, insert_by}
 use Rattle.lr_base.specs.Meaning.{Meaning}
-use Rattle.lr_base.specs.Stamps.{part, join, stamp_le, set_part}
+use Rattle.lr_base.specs.Stamps.{Stamp, part, join, stamp_le, set_part}
 
 -- whether two names are those of one call
 abbrev pub same_cid : Cid → Cid → Bool
@@ -29,15 +32,15 @@ known_of (e ∷ table) cid = if same_cid cid e.0 then Some e.1 else known_of tab
 -- what a replica keeps of causal operations
 pub record CausalState (Value Op : Type 0) : Type 0 where
   pub clock : ℕ
-  pub rep_ts : List ℕ
-  pub val_ts : List ℕ
+  pub rep_ts : Stamp
+  pub val_ts : Stamp
   pub value : Value
   pub updates : List (LogUpdate Op)
   pub acks : List LogAck
   pub calls : List (Cid × Known)
-  pub table : List (List ℕ)
-  pub order_ts : List ℕ
-  pub imm_ts : List ℕ
+  pub table : List Stamp
+  pub order_ts : Stamp
+  pub imm_ts : Stamp
   pub top : ℕ
   pub held : List (Call Op)
 
@@ -59,7 +62,7 @@ first_state m replicas parts = record {
 }
 
 -- the stamp of a logged update: its causes, and its own number at its place
-abbrev pub stamp_of : {Op : Type 0} → LogUpdate Op → List ℕ
+abbrev pub stamp_of : {Op : Type 0} → LogUpdate Op → Stamp
 stamp_of u = set_part u.prev u.spot.place u.spot.number
 
 -- whether a time lies further back than the clock allows
@@ -88,11 +91,11 @@ fresh_of delta state cid time =
     (find (λ ack. same_cid ack.cid cid) state.acks)
 
 -- the list with one more update, in the order of spots
-abbrev pub put_update : {Op : Type 0} → LogUpdate Op → List (LogUpdate Op) → List (LogUpdate Op)
-put_update u [] = u ∷ []
-put_update u (x ∷ updates) = if is_before u.spot x.spot then u ∷ x ∷ updates else x ∷ put_update u updates
+abbrev pub insert_update : {Op : Type 0} → LogUpdate Op → List (LogUpdate Op) → List (LogUpdate Op)
+insert_update u updates = insert_by (λ a b. is_before a.spot b.spot) u updates
 
--- the update that a replica at this place makes of a call: it takes the next number, and comes after the last immediate update
+-- the update that a replica at this place makes of a call: it takes the next number, and comes after the last
+-- immediate update
 abbrev pub update_of_call : {Value Op : Type 0} → ℕ → CausalState Value Op → Call Op → LogUpdate Op
 update_of_call me state call = record {
   spot = record { place = me; number = part state.rep_ts me + 1 };
@@ -107,7 +110,7 @@ accepted me state call =
     let u = update_of_call me state call in
     record state {
       rep_ts = set_part state.rep_ts me u.spot.number;
-      updates = put_update u state.updates;
+      updates = insert_update u state.updates;
       top = u.spot.number;
     }
 
@@ -116,38 +119,36 @@ abbrev pub gossip_of : {Value Op : Type 0} → CausalState Value Op → Gossip O
 gossip_of state = record { rep_ts = state.rep_ts; updates = state.updates; acks = state.acks }
 
 -- whether an item at this spot is new where so many items were received of each place
-abbrev pub is_new : List ℕ → Spot → Bool
+abbrev pub is_new : Stamp → Spot → Bool
 is_new rep_ts spot = nat_lt (part rep_ts spot.place) spot.number
 
 -- the updates that are new
-abbrev pub new_updates : {Op : Type 0} → List ℕ → List (LogUpdate Op) → List (LogUpdate Op)
+abbrev pub new_updates : {Op : Type 0} → Stamp → List (LogUpdate Op) → List (LogUpdate Op)
 new_updates rep_ts updates = filter (λ u. is_new rep_ts u.spot) updates
 
 -- the acknowledgements that are new
-abbrev pub new_acks : List ℕ → List LogAck → List LogAck
+abbrev pub new_acks : Stamp → List LogAck → List LogAck
 new_acks rep_ts acks = filter (λ a. is_new rep_ts a.spot) acks
 
 -- the list with these updates too, in the order of spots
-abbrev pub put_updates : {Op : Type 0} → List (LogUpdate Op) → List (LogUpdate Op) → List (LogUpdate Op)
-put_updates [] updates = updates
-put_updates (u ∷ more) updates = put_updates more (put_update u updates)
+abbrev pub insert_updates : {Op : Type 0} → List (LogUpdate Op) → List (LogUpdate Op) → List (LogUpdate Op)
+insert_updates more updates = insert_all_by (λ a b. is_before a.spot b.spot) more updates
 
 -- the list with one more acknowledgement, in the order of spots
-abbrev pub put_ack : LogAck → List LogAck → List LogAck
-put_ack a [] = a ∷ []
-put_ack a (x ∷ acks) = if is_before a.spot x.spot then a ∷ x ∷ acks else x ∷ put_ack a acks
+abbrev pub insert_ack : LogAck → List LogAck → List LogAck
+insert_ack ack acks = insert_by (λ a b. is_before a.spot b.spot) ack acks
 
 -- the list with these acknowledgements too
-abbrev pub put_acks : List LogAck → List LogAck → List LogAck
-put_acks [] acks = acks
-put_acks (a ∷ more) acks = put_acks more (put_ack a acks)
+abbrev pub insert_acks : List LogAck → List LogAck → List LogAck
+insert_acks more acks = insert_all_by (λ a b. is_before a.spot b.spot) more acks
 
--- taking gossip of this replica: what is new is logged, and its stamp is joined to the own one and to the one kept of it
+-- taking gossip of this replica: what is new is logged, and its stamp is joined to the own one and to the one kept of
+-- it
 abbrev pub gossip_taken : {Value Op : Type 0} → ℕ → CausalState Value Op → Gossip Op → CausalState Value Op
 gossip_taken from state gossip = record state {
   rep_ts = join state.rep_ts gossip.rep_ts;
-  updates = put_updates (new_updates state.rep_ts gossip.updates) state.updates;
-  acks = put_acks (new_acks state.rep_ts gossip.acks) state.acks;
+  updates = insert_updates (new_updates state.rep_ts gossip.updates) state.updates;
+  acks = insert_acks (new_acks state.rep_ts gossip.acks) state.acks;
   table = set state.table from (join (get_or state.table from []) gossip.rep_ts);
 }
 
@@ -158,7 +159,7 @@ new_count state gossip = length (new_updates state.rep_ts gossip.updates) + leng
 -- how far applying has come: the value, the stamp of what was applied, the executed calls
 pub record Progress (Value : Type 0) : Type 0 where
   pub value : Value
-  pub val_ts : List ℕ
+  pub val_ts : Stamp
   pub calls : List (Cid × Known)
 
 -- applying an update: its call is executed unless it was before, and its stamp is covered either way
@@ -174,11 +175,11 @@ apply_one m p u =
     }
 
 -- whether an update counts as applied to a value with this stamp
-abbrev pub is_covered : {Op : Type 0} → List ℕ → LogUpdate Op → Bool
+abbrev pub is_covered : {Op : Type 0} → Stamp → LogUpdate Op → Bool
 is_covered val_ts u = stamp_le (stamp_of u) val_ts
 
 -- the first update whose causes are applied, and the others
-abbrev pub take_ready : {Op : Type 0} → List ℕ → List (LogUpdate Op) → Option (LogUpdate Op × List (LogUpdate Op))
+abbrev pub take_ready : {Op : Type 0} → Stamp → List (LogUpdate Op) → Option (LogUpdate Op × List (LogUpdate Op))
 take_ready val_ts [] = None
 take_ready val_ts (u ∷ todo) =
     if stamp_le u.prev val_ts
@@ -186,13 +187,14 @@ take_ready val_ts (u ∷ todo) =
     else option_map (λ taken. (taken.0, u ∷ taken.1)) (take_ready val_ts todo)
 
 -- applying the first update whose causes are applied, again and again, so many times at the most
-abbrev pub apply_ready : {Value Op : Type 0} → Meaning Value Op → ℕ → List (LogUpdate Op) → Progress Value → Progress Value
+abbrev pub apply_ready : {Value Op : Type 0} → Meaning Value Op → ℕ → List (LogUpdate Op) → Progress Value
+    → Progress Value
 apply_ready m zero todo p = p
 apply_ready m (suc turns) todo p =
     option_map_or (λ taken. apply_ready m turns taken.1 (apply_one m p taken.0)) (take_ready p.val_ts todo) p
 
 -- the logged updates that don't count as applied as the part begins
-abbrev pub waiting : {Op : Type 0} → List ℕ → List (LogUpdate Op) → List (LogUpdate Op)
+abbrev pub waiting : {Op : Type 0} → Stamp → List (LogUpdate Op) → List (LogUpdate Op)
 waiting val_ts updates = filter (λ u. not (is_covered val_ts u)) updates
 
 -- how far applying had come in a state
@@ -215,5 +217,5 @@ abbrev pub held_more : {Value Op : Type 0} → CausalState Value Op → Call Op 
 held_more state call = record state { held = state.held ++ call ∷ [] }
 
 -- what a query with this label is answered: nothing while something of its label isn't applied
-abbrev pub answer_of : {Value Op : Type 0} → Meaning Value Op → Value → List ℕ → List ℕ → Op → Option (List ℕ)
+abbrev pub answer_of : {Value Op : Type 0} → Meaning Value Op → Value → Stamp → Stamp → Op → Option Bytes
 answer_of m value val_ts label op = if stamp_le label val_ts then Some (m.read value op) else None

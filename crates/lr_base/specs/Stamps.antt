@@ -1,26 +1,30 @@
 -- Stamps, as lists of parts: one part for each place. A part past the end is 0.
 use Rattle.std.specs.Prelude.{ℕ, zero, suc, max, Bool, true, ◌&&◌, ◌==◌, nat_le, List, [], ◌∷◌}
 
+-- a stamp, as the list of its parts
+abbrev pub Stamp : Type 0
+Stamp = List ℕ
+
 -- the part at this place
-abbrev pub part : List ℕ → ℕ → ℕ
+abbrev pub part : Stamp → ℕ → ℕ
 part [] place = 0
 part (x ∷ a) zero = x
 part (x ∷ a) (suc place) = part a place
 
 -- the greater of each pair of parts
-abbrev pub join : List ℕ → List ℕ → List ℕ
+abbrev pub join : Stamp → Stamp → Stamp
 join [] b = b
 join (x ∷ a) [] = x ∷ a
 join (x ∷ a) (y ∷ b) = max x y ∷ join a b
 
 -- whether each part of the first is at most its counterpart in the second
-abbrev pub stamp_le : List ℕ → List ℕ → Bool
+abbrev pub stamp_le : Stamp → Stamp → Bool
 stamp_le [] b = true
 stamp_le (x ∷ a) [] = (x == 0) && stamp_le a []
 stamp_le (x ∷ a) (y ∷ b) = nat_le x y && stamp_le a b
 
 -- the stamp with this part, and with zeros before it where it is past the end
-abbrev pub set_part : List ℕ → ℕ → ℕ → List ℕ
+abbrev pub set_part : Stamp → ℕ → ℕ → Stamp
 set_part [] zero n = n ∷ []
 set_part [] (suc place) n = 0 ∷ set_part [] place n
 set_part (x ∷ a) zero n = n ∷ a

@@ -1,11 +1,15 @@
 -- What a replica does with a message, as a function of its state.
-use Rattle.std.specs.Prelude.{ℕ, ◌+◌, ◌^◌, ◌==◌, Bool, true, false, not, nat_lt, if◌then◌else◌, List, [], ◌∷◌, ◌++◌, filter, length}
+use Rattle.std.specs.Prelude.{ℕ, ◌+◌, ◌==◌, Bool, true, false, not, nat_lt, if◌then◌else◌, List, [], ◌∷◌, ◌++◌}
+use Rattle.std.specs.Prelude.{filter, length}
+use Rattle.lr_base.specs.Limits.{held_room, last_number, log_room}
 use Rattle.lr_base.specs.Meaning.{Meaning}
-use Rattle.lr_base.specs.Rules.{CausalState, accepted, applied, fresh_of, gossip_of, gossip_taken, held_more, new_count, pruned, stamp_of, update_of_call}
-use Rattle.lr_base.specs.Stamps.{part, stamp_le}
+use Rattle.lr_base.specs.Rules.{CausalState, accepted, applied, fresh_of, gossip_of, gossip_taken, held_more}
+use Rattle.lr_base.specs.Rules.{new_count, pruned, stamp_of, update_of_call}
+use Rattle.lr_base.specs.Stamps.{Stamp, part, stamp_le}
 use Rattle.lr_base.specs.declared.events.Outcome.TheVariants.{Accept, Hold, Refuse, Take}
 use Rattle.lr_base.specs.declared.events.Refusal.{Refusal}
-use Rattle.lr_base.specs.declared.events.Refusal.TheVariants.{Late as IsLate, Again as WasTaken, Settled as IsSettled, FullLog, FullHeld, Worn}
+use Rattle.lr_base.specs.declared.events.Refusal.TheVariants.{Late as IsLate, Again as WasTaken, Settled as IsSettled}
+use Rattle.lr_base.specs.declared.events.Refusal.TheVariants.{FullLog, FullHeld, Worn}
 use Rattle.lr_base.specs.declared.messages.Call.{Call}
 use Rattle.lr_base.specs.declared.messages.Fresh.{Fresh}
 use Rattle.lr_base.specs.declared.messages.Fresh.TheVariants.{New, Late, Again, Settled}
@@ -26,7 +30,7 @@ pub record Ending (Value Op : Type 0) : Type 0 where
   pub acts : List (Act Op)
 
 -- the reply to an update, which goes to the client of its call
-abbrev pub done_act : {Op : Type 0} → Cid → Spot → List ℕ → Act Op
+abbrev pub done_act : {Op : Type 0} → Cid → Spot → Stamp → Act Op
 done_act cid spot stamp = Send (Client cid.client) (Done cid spot stamp)
 
 -- the reply to a query: what the service answers, and what it was read after
@@ -57,11 +61,11 @@ refusing state why = record { state = state; acts = Say (Refuse why) ∷ [] }
 
 -- whether one more item may be logged
 abbrev pub has_room : {Value Op : Type 0} → CausalState Value Op → Bool
-has_room state = nat_lt (length state.updates + length state.acks) 512
+has_room state = nat_lt (length state.updates + length state.acks) log_room
 
 -- whether this replica may still number an update
 abbrev pub has_number : {Value Op : Type 0} → ℕ → CausalState Value Op → Bool
-has_number me state = nat_lt (part state.rep_ts me) (2 ^ 62)
+has_number me state = nat_lt (part state.rep_ts me) last_number
 
 -- a new call is refused without room or a number, and else accepted
 abbrev pub call_taken : {Value Op : Type 0} → ℕ → CausalState Value Op → Call Op → Bool → Bool → Ending Value Op
@@ -90,9 +94,10 @@ query_held state call false = refusing state FullHeld
 query_held state call true = record { state = held_more state call; acts = Say (Hold call.cid) ∷ [] }
 
 -- a query is answered where all that its label names is applied
-abbrev pub query_taken : {Value Op : Type 0} → Meaning Value Op → CausalState Value Op → Call Op → Bool → Ending Value Op
+abbrev pub query_taken : {Value Op : Type 0} → Meaning Value Op → CausalState Value Op → Call Op → Bool
+    → Ending Value Op
 query_taken m state call true = record { state = state; acts = answer_act m state call ∷ [] }
-query_taken m state call false = query_held state call (nat_lt (length state.held) 1024)
+query_taken m state call false = query_held state call (nat_lt (length state.held) held_room)
 
 -- nothing is done
 abbrev pub idle : {Value Op : Type 0} → CausalState Value Op → Ending Value Op
@@ -101,17 +106,21 @@ idle state = record { state = state; acts = [] }
 -- gossip is taken, if it comes from another replica
 abbrev pub gossip_given : {Value Op : Type 0} → ℕ → CausalState Value Op → Gossip Op → Bool → Ending Value Op
 gossip_given from state gossip true = idle state
-gossip_given from state gossip false = record { state = gossip_taken from state gossip; acts = Say (Take (new_count state gossip)) ∷ [] }
+gossip_given from state gossip false =
+    record { state = gossip_taken from state gossip; acts = Say (Take (new_count state gossip)) ∷ [] }
 
 -- what a message itself does at a replica: replies have no rule there, nor has what comes from where it can't
-abbrev pub own_taken : {Value Op : Type 0} → Meaning Value Op → Config → ℕ → CausalState Value Op → Actor → Message Op → Ending Value Op
-own_taken m config me state (Client client) (Update call time) = update_taken me state call (fresh_of config.delta state call.cid time)
+abbrev pub own_taken : {Value Op : Type 0} → Meaning Value Op → Config → ℕ → CausalState Value Op → Actor
+    → Message Op → Ending Value Op
+own_taken m config me state (Client client) (Update call time) =
+    update_taken me state call (fresh_of config.delta state call.cid time)
 own_taken m config me state (Client client) (Query call) = query_taken m state call (stamp_le call.prev state.val_ts)
 own_taken m config me state (Replica from) (GossipMessage gossip) = gossip_given from state gossip (from == me)
 own_taken m config me state _ _ = idle state
 
 -- what a replica does with a message, to the end of the step
-abbrev pub taken : {Value Op : Type 0} → Meaning Value Op → Config → ℕ → CausalState Value Op → Actor → Message Op → Ending Value Op
+abbrev pub taken : {Value Op : Type 0} → Meaning Value Op → Config → ℕ → CausalState Value Op → Actor → Message Op
+    → Ending Value Op
 taken m config me state from message =
     let own = own_taken m config me state from message in
     ended m config.replicas own.state own.acts

@@ -6,6 +6,7 @@ mod bytes;
 mod events;
 mod executed;
 mod laws;
+mod limits;
 pub mod lr_service;
 mod messages;
 mod names;
@@ -22,6 +23,9 @@ pub use bytes::{
 pub use events::{Event, Outcome, Refusal, Sent, StateLine, Step};
 pub use executed::Executed;
 pub use laws::{join_is_least, order_of_stamps, set_part_changes_one};
+pub use limits::{
+    HELD_ROOM, LAST_NUMBER, LOG_ROOM, MOST_CLIENTS, MOST_PARTS, MOST_REPLICAS, MOST_SCRIPT_BYTES,
+};
 pub use messages::{Call, Fresh, Gossip, Known, LogAck, LogUpdate, Message};
 pub use names::{Actor, Cid, Config, Spot};
 pub use numbers::read_number;

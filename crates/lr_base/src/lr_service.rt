@@ -79,7 +79,8 @@ pub trait Service: Sized + Drop {
     fn read_op(alloc: Global, text: &[u8]) -> Result<Self::Op, OpFault>
         ensures written { IfOk result (λ op. meaning.text op ≡ text.now) }
         ensures real { IfOk result (λ op. meaning.is_op op ≡ true) }
-        ensures refused { IsErrOf result OpFault.NotAnOp → (op : Self.Op) → meaning.is_op op ≡ true → meaning.text op ≢ text.now };
+        ensures refused { IsErrOf result OpFault.NotAnOp
+            → (op : Self.Op) → meaning.is_op op ≡ true → meaning.text op ≢ text.now };
 
     /// Adds the operation's one text behind `out`.
     fn print_op(op: &Self::Op, out: &mut Text) -> Result<(), NoMemory>

@@ -2,12 +2,14 @@
 ghost use Rattle.std.specs.Prelude.{◌↔◌, IsTrue};
 ghost use Rattle.lr_base.specs.Config.{IsValid};
 
+use crate::limits::{MOST_CLIENTS, MOST_REPLICAS};
+
 /// How many replicas and clients there are, and how long a message may be under way.
 #[derive(Clone, Copy, PartialEq, Eq)]
 pub struct Config {
-    /// From 1 to 9.
+    /// From 1 to [`MOST_REPLICAS`].
     pub replicas: u8,
-    /// From 1 to 64.
+    /// From 1 to [`MOST_CLIENTS`].
     pub clients: u32,
     /// In the unit of the clocks' readings.
     pub delta: u64,
@@ -23,7 +25,7 @@ impl Config {
             clients,
             delta: _delta,
         } = *self;
-        1 <= replicas && replicas <= 9 && 1 <= clients && clients <= 64
+        1 <= replicas && replicas <= MOST_REPLICAS && 1 <= clients && clients <= MOST_CLIENTS
     }
 }
 

@@ -1,13 +1,12 @@
 //! Multipart timestamps.
 ghost use Rattle.std.specs.Prelude.{⊤, ◌≡◌, ◌<◌, ◌≤◌, length, replicate};
+ghost use Rattle.lr_base.specs.Limits.{most_parts};
 ghost use Rattle.lr_base.specs.Stamps.{part, join, stamp_le, set_part};
 
+use crate::limits::MOST_PARTS;
 use arrayvec::ArrayVec;
 use std::alloc::AllocError;
 use std::marker::Model;
-
-// The most parts that a stamp has: one for each replica, and one for the order.
-const MOST_PARTS: usize = 10;
 
 /// A multipart timestamp: one part for each replica, and a last one for the order. No call takes memory.
 #[derive(Drop)]
@@ -17,26 +16,26 @@ pub struct Stamp {
 
 impl Model for Stamp {
     ghost use Rattle.std.specs.Prelude.{List, ℕ, ◌≤◌, length};
+    ghost use Rattle.lr_base.specs.Limits.{most_parts};
 
     ghost Value = { List ℕ };
 
     ghost view = { λ it. it.parts.items };
 
-    ghost invariant = { λ it. length it.parts.items ≤ 10 };
+    ghost invariant = { λ it. length it.parts.items ≤ most_parts };
 }
 
 impl Stamp {
     /// A stamp of this many parts, all of them 0.
     pub fn zero(parts: u8) -> Stamp
         requires some { 2 ≤ parts }
-        requires most { parts ≤ 10 }
+        requires most { parts ≤ most_parts }
         ensures { result ≡ replicate parts 0 }
     {
-        let mut zeros = ArrayVec::new();
-        for _ in 0..parts {
-            zeros.push(0);
+        let zeros = [0; MOST_PARTS];
+        Stamp {
+            parts: stored(&zeros[..parts as usize]),
         }
-        Stamp { parts: zeros }
     }
 
     /// How many parts it has.
@@ -50,11 +49,9 @@ impl Stamp {
     pub fn copy(&self) -> Stamp
         ensures { result ≡ self.now }
     {
-        let mut parts = ArrayVec::new();
-        for part in self.parts.as_slice() {
-            parts.push(*part);
+        Stamp {
+            parts: stored(self.parts.as_slice()),
         }
-        Stamp { parts }
     }
 
     /// The part at a place.
@@ -100,6 +97,16 @@ impl Clone for Stamp {
     fn clone(&self) -> Result<Self, AllocError> {
         Ok(self.copy())
     }
+}
+
+// These parts, copied at once.
+fn stored(parts: &[u64]) -> ArrayVec<u64, MOST_PARTS>
+    requires { length parts.now ≤ most_parts }
+    ensures { result.items ≡ parts.now }
+{
+    let mut items = ArrayVec::new();
+    let _all_fit = items.try_extend_from_slice(parts);
+    items
 }
 
 fn raise(own: &mut [u64], other: &[u64])

@@ -1,5 +1,6 @@
 -- What holds of acceptances and of sets of them: causes exist, come before, and come along.
 use Rattle.std.specs.Prelude.{◌≡◌, ◌<◌, true, false, not, ◌&&◌, List, [], ◌∷◌}
+use Rattle.std.specs.List.{AllByRecursion}
 use Rattle.lr_base.specs.Orders.{IsAmong}
 use Rattle.lr_base.specs.declared.names.Spot.{Spot}
 use Rattle.lr_graph.specs.Graph.{Acceptance}
@@ -7,8 +8,7 @@ use Rattle.lr_graph.specs.Sets.{SpotSet, same_spot}
 
 -- P holds of each element of the list
 abbrev pub Each : {A : Type 0} → (A → Type 0) → List A → Type 0
-Each P [] = Unit {0}
-Each P (first ∷ rest) = P first × Each P rest
+Each P xs = AllByRecursion P xs
 
 -- each acceptance that is in x is in y
 abbrev pub IsWithin : {Op : Type 0} → List (Acceptance Op) → SpotSet → SpotSet → Type 0

@@ -7,7 +7,7 @@ use Rattle.lr_base.specs.Rules.{same_cid}
 use Rattle.lr_base.specs.declared.names.Actor.{Actor}
 use Rattle.lr_base.specs.declared.names.Cid.{Cid}
 use Rattle.lr_base.specs.declared.names.Spot.{Spot}
-use Rattle.lr_graph.specs.Sets.{SpotSet, same_spot, nothing, how_many, lesser, put_call, put_spot}
+use Rattle.lr_graph.specs.Sets.{SpotSet, same_spot, nothing, how_many, lesser, insert_call, insert_spot}
 
 -- an update that was accepted at a spot, with its causes and itself, which never change
 pub record Acceptance (Op : Type 0) : Type 0 where
@@ -112,12 +112,12 @@ counts accepted set (suc place) =
 -- the spots of a set, ascending
 abbrev pub spots_of : {Op : Type 0} → List (Acceptance Op) → SpotSet → List Spot
 spots_of [] set = []
-spots_of (a ∷ older) set = if set a.spot then put_spot a.spot (spots_of older set) else spots_of older set
+spots_of (a ∷ older) set = if set a.spot then insert_spot a.spot (spots_of older set) else spots_of older set
 
 -- the calls of a set, ascending, each once
 abbrev pub calls_of : {Op : Type 0} → List (Acceptance Op) → SpotSet → List Cid
 calls_of [] set = []
-calls_of (a ∷ older) set = if set a.spot then put_call a.cid (calls_of older set) else calls_of older set
+calls_of (a ∷ older) set = if set a.spot then insert_call a.cid (calls_of older set) else calls_of older set
 
 -- the least spot that a set has of a call
 abbrev pub least_spot : {Op : Type 0} → List (Acceptance Op) → SpotSet → Cid → Option Spot

@@ -1,6 +1,7 @@
 -- Sets of spots, as tests, and lists made of them.
 use Rattle.std.specs.Prelude.{ℕ, suc, Bool, false, ◌&&◌, ◌||◌, ◌==◌, if◌then◌else◌, List, [], ◌∷◌, Option, Some, None}
 use Rattle.lr_base.specs.Ascending.{cid_before}
+use Rattle.lr_base.specs.Insertion.{insert_by, insert_new_by}
 use Rattle.lr_base.specs.Rules.{same_cid, is_before}
 use Rattle.lr_base.specs.declared.names.Cid.{Cid}
 use Rattle.lr_base.specs.declared.names.Spot.{Spot}
@@ -41,12 +42,9 @@ lesser a None = Some a
 lesser a (Some b) = Some (if is_before a b then a else b)
 
 -- the ascending list with this call in it, once
-abbrev pub put_call : Cid → List Cid → List Cid
-put_call cid [] = cid ∷ []
-put_call cid (x ∷ cids) =
-    if same_cid cid x then x ∷ cids else (if cid_before cid x then cid ∷ x ∷ cids else x ∷ put_call cid cids)
+abbrev pub insert_call : Cid → List Cid → List Cid
+insert_call cid cids = insert_new_by same_cid cid_before cid cids
 
 -- the ascending list with this spot in it
-abbrev pub put_spot : Spot → List Spot → List Spot
-put_spot spot [] = spot ∷ []
-put_spot spot (x ∷ spots) = if is_before spot x then spot ∷ x ∷ spots else x ∷ put_spot spot spots
+abbrev pub insert_spot : Spot → List Spot → List Spot
+insert_spot spot spots = insert_by is_before spot spots

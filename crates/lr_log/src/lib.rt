@@ -4,8 +4,5 @@
 mod log;
 mod received;
 
-pub use log::{LOG_ROOM, Log};
+pub use log::Log;
 pub use received::{is_new, part_or_zero};
-
-#[cfg(test)]
-mod tests;

@@ -1,18 +1,19 @@
 //! What a replica received and keeps: updates and acknowledgements.
-ghost use Rattle.std.specs.Prelude.{◌≡◌, ◌↔◌, ◌<◌, ◌≤◌, ◌+◌, [], length, filter, find, map, not, position, IsTrue, IfOk, OnOk, OnErr};
+ghost use Rattle.std.specs.Prelude.{◌≡◌, ◌↔◌, ◌<◌, ◌≤◌, ◌+◌, not, IsTrue, IfOk, OnOk, OnErr};
+ghost use Rattle.std.specs.Prelude.{[], length, filter, find, map, position};
 ghost use Rattle.std.specs.Option.{option_map, option_copied};
 ghost use Rattle.std.specs.List.{position_or_len};
-ghost use Rattle.lr_base.specs.Rules.{is_new as is_new_at, put_ack, put_acks as all_acks_put, put_update, put_updates as all_updates_put, same_cid, is_before as spot_is_before};
+ghost use Rattle.lr_base.specs.Limits.{log_room};
+ghost use Rattle.lr_base.specs.Rules.{is_before as spot_is_before, is_new as is_new_at, same_cid};
+ghost use Rattle.lr_base.specs.Rules.{insert_ack, insert_acks as all_acks_inserted};
+ghost use Rattle.lr_base.specs.Rules.{insert_update, insert_updates as all_updates_inserted};
 ghost use Rattle.lr_log.specs.Items.{Items, item_count};
 
 use crate::received::is_new;
 use lr_base::lr_service::Operation;
-use lr_base::{Cid, LogAck, LogUpdate, NoMemory, Spot, Stamp};
+use lr_base::{Cid, LOG_ROOM, LogAck, LogUpdate, NoMemory, Spot, Stamp};
 use std::alloc::Global;
 use std::marker::Model;
-
-/// How many items a log may hold before a new one is refused.
-pub const LOG_ROOM: usize = 512;
 
 /// The logged updates and acknowledgements, each list in order of place and then number.
 #[derive(Drop)]
@@ -69,7 +70,7 @@ impl<O: Drop> Log<O> {
 
     /// Whether one more item may be logged.
     pub fn has_room(&self) -> bool
-        ensures { IsTrue result ↔ (item_count self.now < LOG_ROOM) }
+        ensures { IsTrue result ↔ (item_count self.now < log_room) }
     {
         let updates = self.updates.len();
         updates < LOG_ROOM && self.acks.len() < LOG_ROOM - updates
@@ -103,7 +104,7 @@ impl<O: Drop> Log<O> {
 
     /// Logs an update, at its place in the order of spots.
     pub fn add_update(&mut self, update: LogUpdate<O>) -> Result<(), NoMemory>
-        ensures ok { OnOk result (self.new ≡ record self.old { updates = put_update update self.old.updates }) }
+        ensures ok { OnOk result (self.new ≡ record self.old { updates = insert_update update self.old.updates }) }
         ensures err { OnErr result (self.new ≡ self.old) }
     {
         let at = place_of(self.updates.as_slice(), update.spot);
@@ -113,7 +114,7 @@ impl<O: Drop> Log<O> {
 
     /// Logs an acknowledgement, at its place in the order of spots.
     pub fn add_ack(&mut self, ack: LogAck) -> Result<(), NoMemory>
-        ensures ok { OnOk result (self.new ≡ record self.old { acks = put_ack ack self.old.acks }) }
+        ensures ok { OnOk result (self.new ≡ record self.old { acks = insert_ack ack self.old.acks }) }
         ensures err { OnErr result (self.new ≡ self.old) }
     {
         let at = ack_place_of(self.acks.as_slice(), ack.spot);
@@ -143,7 +144,7 @@ impl<O: Operation> Log<O> {
     pub fn copy(&self) -> Result<Self, NoMemory>
         ensures { IfOk result (λ copied. copied ≡ self.now) }
     {
-        let mut updates = Vec::new(self.allocator());
+        let mut updates = Vec::with_capacity(self.allocator(), self.updates.len())?;
         for update in self.updates.as_slice() {
             updates.push(update.copy()?)?;
         }
@@ -153,22 +154,27 @@ impl<O: Operation> Log<O> {
 
     /// Logs these items. Where there is none it takes no memory.
     pub fn add_all(&mut self, updates: &[&LogUpdate<O>], acks: &[LogAck]) -> Result<(), NoMemory>
-        ensures ok { OnOk result (self.new ≡ record self.old { updates = all_updates_put (map (λ u. u.now) updates.now) self.old.updates; acks = all_acks_put acks.now self.old.acks }) }
+        ensures ok { OnOk result (self.new ≡ record self.old {
+          updates = all_updates_inserted (map (λ u. u.now) updates.now) self.old.updates;
+          acks = all_acks_inserted acks.now self.old.acks;
+        }) }
         ensures err { OnErr result (self.new ≡ self.old) }
     {
         if updates.is_empty() && acks.is_empty() {
             return Ok(());
         }
         let mut log = self.copy()?;
-        put_updates(&mut log, updates)?;
-        put_acks(&mut log, acks)?;
+        insert_updates(&mut log, updates)?;
+        insert_acks(&mut log, acks)?;
         *self = log;
         Ok(())
     }
 }
 
-fn put_updates<O: Operation>(log: &mut Log<O>, updates: &[&LogUpdate<O>]) -> Result<(), NoMemory>
-    ensures { OnOk result (log.new ≡ record log.old { updates = all_updates_put (map (λ u. u.now) updates.now) log.old.updates }) }
+fn insert_updates<O: Operation>(log: &mut Log<O>, updates: &[&LogUpdate<O>]) -> Result<(), NoMemory>
+    ensures { OnOk result (log.new ≡ record log.old {
+      updates = all_updates_inserted (map (λ u. u.now) updates.now) log.old.updates;
+    }) }
 {
     for update in updates {
         log.add_update(update.copy()?)?;
@@ -176,8 +182,8 @@ fn put_updates<O: Operation>(log: &mut Log<O>, updates: &[&LogUpdate<O>]) -> Res
     Ok(())
 }
 
-fn put_acks<O: Drop>(log: &mut Log<O>, acks: &[LogAck]) -> Result<(), NoMemory>
-    ensures { OnOk result (log.new ≡ record log.old { acks = all_acks_put acks.now log.old.acks }) }
+fn insert_acks<O: Drop>(log: &mut Log<O>, acks: &[LogAck]) -> Result<(), NoMemory>
+    ensures { OnOk result (log.new ≡ record log.old { acks = all_acks_inserted acks.now log.old.acks }) }
 {
     for ack in acks {
         log.add_ack(*ack)?;

@@ -1,6 +1,6 @@
 -- What every logged update keeps.
-use Rattle.std.proofs.Common.{◌≡◌, ℕ, zero, suc, Bool, true, false, List, [], ◌∷◌, ◌++◌, refl, subst}
-use Rattle.std.specs.Prelude.{if◌then◌else◌, filter, remove}
+use Rattle.std.proofs.Common.{◌≡◌, ℕ, zero, suc, Bool, true, false, List, [], ◌∷◌, refl, subst}
+use Rattle.std.specs.Prelude.{filter, remove}
 use Rattle.lr_base.specs.declared.lr_service.Kind.{Kind}
 use Rattle.lr_base.specs.declared.messages.LogUpdate.{LogUpdate}
 use Rattle.lr_base.specs.Logged.{IsLogged, AllFit, AllLogged}
@@ -13,15 +13,6 @@ module _ {Op : Type 0} (kind_of : Op → Kind) (parts : ℕ) where
   pub AllLogged-front : (u : LogUpdate Op) (updates : List (LogUpdate Op)) → IsLogged kind_of parts u → AllLogged kind_of parts updates → AllLogged kind_of parts (u ∷ updates)
   AllLogged-front u updates own all zero = λ x e. let same : u ≡ x = cc in subst (λ (y : LogUpdate Op). IsLogged kind_of parts y) same own
   AllLogged-front u updates own all (suc k) = all k
-
-  AllLogged-behind_all : (u : LogUpdate Op) (updates : List (LogUpdate Op)) → IsLogged kind_of parts u → AllLogged kind_of parts updates → AllLogged kind_of parts (updates ++ u ∷ [])
-  AllLogged-behind_all u [] own all = AllLogged-front u [] own all
-  AllLogged-behind_all u (x ∷ updates) own all = AllLogged-front x (updates ++ u ∷ []) (all 0 x refl) (AllLogged-behind_all u updates own (λ k. all (suc k)))
-
-  -- a list of such updates with one more at the end, if there was memory
-  pub AllLogged-pushed : (done : Bool) (u : LogUpdate Op) (updates new : List (LogUpdate Op)) → new ≡ (if done then updates ++ u ∷ [] else updates) → IsLogged kind_of parts u → AllLogged kind_of parts updates → AllLogged kind_of parts new
-  AllLogged-pushed true u updates new is own all = rw is (AllLogged-behind_all u updates own all)
-  AllLogged-pushed false u updates new is own all = rw is all
 
   -- such updates without one of them
   pub AllLogged-remove : (updates : List (LogUpdate Op)) (at : ℕ) → AllLogged kind_of parts updates → AllLogged kind_of parts (remove updates at)

@@ -1,14 +1,13 @@
 -- Tables of executed calls.
-use Rattle.std.proofs.Common.{◌≡◌, ◌≤◌, ◌∙◌, Bool, true, false, List, [], ◌∷◌, ◌++◌, ap, arith, length, Option, Some, None, is_some, refl, subst, sym, take, ℕ}
-use Rattle.std.proofs.Math.Seq.{take-take}
+use Rattle.std.proofs.Common.{◌≡◌, ◌≤◌, ◌∙◌, Bool, true, false, List, [], ◌∷◌, ◌++◌, ap, arith, length, Some, None, refl, subst, sym, take, ℕ}
+use Rattle.std.proofs.Math.Seq.{take-take, take-length}
 use Rattle.std.proofs.lemmas.List.{length-take}
-use Rattle.std.specs.Prelude.{find}
-use Rattle.std.specs.Borrow.{Bor}
-use Rattle.std.specs.Option.{ForSome, option_copied}
+use Rattle.std.specs.Option.{ForSome}
 use Rattle.lr_base.specs.declared.names.Cid.{Cid}
 use Rattle.lr_base.specs.declared.messages.Known.{Known}
-use Rattle.lr_base.specs.Rules.{same_cid, known_of}
+use Rattle.lr_base.specs.Rules.{Progress, same_cid, known_of}
 use Rattle.lr_base.specs.Logged.{AllKnown}
+use Rattle.lr_value.specs.Applied.{GoesOn}
 
 -- what holds of all that was known, and of a call that is entered, holds of all that is known
 pub known_of-entered : (P : Known → Type 0) (calls : List (Cid × Known)) (cid q : Cid) (known : Known) → ForSome (known_of calls q) P → P known → ForSome (known_of (calls ++ (cid, known) ∷ []) q) P
@@ -27,20 +26,6 @@ known_of-entered P (e ∷ calls) cid q known before own = go (same_cid q e.0) re
 pub AllKnown-entered : (parts : ℕ) (calls new : List (Cid × Known)) (cid : Cid) (known : Known) → new ≡ calls ++ (cid, known) ∷ [] → length known.stamp ≡ parts → AllKnown parts calls → AllKnown parts new
 AllKnown-entered parts calls new cid known is long all = rw is (λ q. known_of-entered (λ k. length k.stamp ≡ parts) calls cid q known (all q) long)
 
--- a call is known where an entry of it is found
-pub found_known : (entries : List (Cid × Known)) (cid : Cid) → is_some (find (λ e. same_cid cid e.0) entries) ≡ is_some (known_of entries cid)
-found_known [] cid = refl
-found_known (e ∷ entries) cid = go (same_cid cid e.0) refl (found_known entries cid)
-  where
-    go : (same : Bool) → same_cid cid e.0 ≡ same → is_some (find (λ e. same_cid cid e.0) entries) ≡ is_some (known_of entries cid) → is_some (find (λ e. same_cid cid e.0) (e ∷ entries)) ≡ is_some (known_of (e ∷ entries) cid)
-    go true is later = rw is refl
-    go false is later = rw is later
-
--- what a reference points to is there where the reference is
-pub some-copied : {A : Type 0} (found : Option (Bor A)) → is_some (option_copied found) ≡ is_some found
-some-copied None = refl
-some-copied (Some found) = refl
-
 -- a list that begins with another has as many elements at least
 within-front : {X : Type 0} (front all : List X) → take (length front) all ≡ front → length front ≤ length all
 within-front front all begins = let long = ap length begins in let most = length-take (length front) all in omega arith
@@ -49,3 +34,22 @@ within-front front all begins = let long = ap length begins in let most = length
 pub front-trans : {X : Type 0} (first second third : List X) → take (length first) second ≡ first → take (length second) third ≡ second → take (length first) third ≡ first
 front-trans first second third begins goes =
     sym (take-take (length first) (length second) third (within-front first second begins)) ∙ ap (take (length first)) goes ∙ begins
+
+-- nothing was applied
+pub stays : {Value : Type 0} (p : Progress Value) → GoesOn p p
+stays p = record { parts = refl; grown = take-length p.calls; known = λ all. all }
+
+-- what goes on from there goes on from before
+pub goes_further : {Value : Type 0} (p q r : Progress Value) → GoesOn p q → GoesOn q r → GoesOn p r
+goes_further p q r first then = record {
+  parts = then.parts ∙ first.parts;
+  grown = front-trans p.calls q.calls r.calls first.grown then.grown;
+  known = λ all.
+      let before : AllKnown (length q.val_ts) q.calls = rw first.parts (first.known all) in
+      let after : AllKnown (length q.val_ts) r.calls = then.known before in
+      rw (← first.parts) after;
+}
+
+-- the same of progress that is the same
+pub stays-at : {Value : Type 0} (p q : Progress Value) → q ≡ p → GoesOn p q
+stays-at p q same = subst (GoesOn p) (sym same) (stays p)

@@ -1,10 +1,12 @@
 //! Applying logged updates to a value, each call once.
-ghost use Rattle.std.specs.Prelude.{◌≡◌, ◌↔◌, ◌&&◌, ◌<◌, ◌≤◌, ◌++◌, ◌∷◌, [], None, length, not, take, IsNone, IsTrue, IfSome, IfOk, OnOk, OnErr};
+ghost use Rattle.std.specs.Prelude.{◌≡◌, ◌↔◌, ◌<◌, ◌≤◌, ◌&&◌, not, [], ◌∷◌, ◌++◌, length, None};
+ghost use Rattle.std.specs.Prelude.{IsNone, IsTrue, IfSome, IfOk, OnOk, OnErr};
 ghost use Rattle.lr_base.specs.Kinds.{IsUpdate};
-ghost use Rattle.lr_base.specs.Logged.{AllFit, Fits, AllKnown, AllLogged, IsLogged};
-ghost use Rattle.lr_base.specs.Rules.{apply_one, apply_ready as rule, is_covered, known_of, stamp_of, take_ready, waiting as waiting_of};
+ghost use Rattle.lr_base.specs.Logged.{AllFit, Fits, AllLogged, IsLogged};
+ghost use Rattle.lr_base.specs.Rules.{apply_one, apply_ready as rule, is_covered, known_of, take_ready};
+ghost use Rattle.lr_base.specs.Rules.{waiting as waiting_of};
 ghost use Rattle.lr_base.specs.Stamps.{stamp_le};
-ghost use Rattle.lr_value.specs.Applied.{progress};
+ghost use Rattle.lr_value.specs.Applied.{GoesOn, all_ready, progress};
 ghost use Rattle.lr_value.specs.Waiting.{behind, NoneReady, TakesAt};
 
 use crate::value::Value;
@@ -21,11 +23,18 @@ fn run_call<S: Service, E: Executed>(
 ) -> Result<(), NoMemory>
     requires new { known_of (E.known calls.old) update.now.cid ≡ None }
     requires update { IsUpdate (S.Op.kind_of update.now.op) }
-    ensures value { OnOk result (value.new ≡ record value.old { value = S.meaning.apply value.old.value update.now.op }) }
-    ensures calls { OnOk result (E.known calls.new ≡ E.known calls.old ++ (update.now.cid, record { spot = update.now.spot; stamp = stamp.now }) ∷ []) }
-    ensures err_value { OnErr result (value.new ≡ value.old) }
-    ensures err_calls { OnErr result (E.known calls.new ≡ E.known calls.old) }
-    ensures known { AllKnown (length stamp.now) (E.known calls.old) → AllKnown (length stamp.now) (E.known calls.new) }
+    ensures ok { OnOk result (progress value.new (E.known calls.new)
+        ≡ record (progress value.old (E.known calls.old)) {
+          value = S.meaning.apply value.old.value update.now.op;
+          calls = E.known calls.old
+              ++ (update.now.cid, record { spot = update.now.spot; stamp = stamp.now }) ∷ [];
+        }) }
+
+    // What stays, also where memory ends.
+    ensures err { OnErr result (progress value.new (E.known calls.new)
+        ≡ progress value.old (E.known calls.old)) }
+    ensures goes_on { length stamp.now ≡ length value.old.val_ts →
+        GoesOn (progress value.old (E.known calls.old)) (progress value.new (E.known calls.new)) }
 {
     let known = Known {
         spot: update.spot,
@@ -46,12 +55,13 @@ fn execute<S: Service, E: Executed>(
     update: &LogUpdate<S::Op>,
 ) -> Result<(), NoMemory>
     requires logged { IsLogged S.Op.kind_of (length value.old.val_ts) update.now }
-    ensures ok { OnOk result (progress value.new (E.known calls.new) ≡ apply_one S.meaning (progress value.old (E.known calls.old)) update.now) }
-    ensures grown { take (length (E.known calls.old)) (E.known calls.new) ≡ E.known calls.old }
-    ensures err_value { OnErr result (value.new ≡ value.old) }
-    ensures err_calls { OnErr result (E.known calls.new ≡ E.known calls.old) }
-    ensures parts { length value.new.val_ts ≡ length value.old.val_ts }
-    ensures known { AllKnown (length value.old.val_ts) (E.known calls.old) → AllKnown (length value.old.val_ts) (E.known calls.new) }
+    ensures ok { OnOk result (progress value.new (E.known calls.new)
+        ≡ apply_one S.meaning (progress value.old (E.known calls.old)) update.now) }
+
+    // What stays, also where memory ends.
+    ensures err { OnErr result (progress value.new (E.known calls.new)
+        ≡ progress value.old (E.known calls.old)) }
+    ensures goes_on { GoesOn (progress value.old (E.known calls.old)) (progress value.new (E.known calls.new)) }
 {
     let stamp = update.stamp();
     if !calls.has(update.cid) {
@@ -88,20 +98,6 @@ pub fn none_ready<O: Drop>(updates: &[LogUpdate<O>], val_ts: &Stamp) -> bool
         }
     }
     true
-}
-
-/// How many updates don't count as applied.
-pub fn count_waiting<O: Drop>(updates: &[LogUpdate<O>], val_ts: &Stamp) -> usize
-    requires { AllFit (length val_ts.now) updates.now }
-    ensures { result ≡ length (waiting_of val_ts.now updates.now) }
-{
-    let mut count = 0;
-    for update in updates {
-        if is_waiting(update, val_ts) {
-            count += 1;
-        }
-    }
-    count
 }
 
 // The updates that don't count as applied, in their order.
@@ -144,33 +140,17 @@ fn apply_all<S: Service, E: Executed>(
     mut waiting: Vec<&LogUpdate<S::Op>>,
 ) -> Result<(), NoMemory>
     requires { AllLogged S.Op.kind_of (length value.old.val_ts) (behind waiting.items) }
-    ensures ok { OnOk result (progress value.new (E.known calls.new) ≡ rule S.meaning (length waiting.entry.items) (behind waiting.entry.items) (progress value.old (E.known calls.old))) }
-    ensures grown { take (length (E.known calls.old)) (E.known calls.new) ≡ E.known calls.old }
-    ensures parts { length value.new.val_ts ≡ length value.old.val_ts }
-    ensures known { AllKnown (length value.old.val_ts) (E.known calls.old) → AllKnown (length value.old.val_ts) (E.known calls.new) }
+    ensures ok { let todo = behind waiting.entry.items in
+        OnOk result (progress value.new (E.known calls.new)
+        ≡ rule S.meaning (length todo) todo (progress value.old (E.known calls.old))) }
+
+    // What stays, also where memory ends.
+    ensures err { OnErr result (length waiting.entry.items ≤ 1
+        → progress value.new (E.known calls.new) ≡ progress value.old (E.known calls.old)) }
+    ensures goes_on { GoesOn (progress value.old (E.known calls.old)) (progress value.new (E.known calls.new)) }
 {
     while let Some(at) = first_ready(waiting.as_slice(), value.val_ts()) {
         let update = waiting.remove(at);
-        execute(value, calls, update)?;
-    }
-    Ok(())
-}
-
-// Applies the only update that waits, if its causes are applied.
-fn apply_only<S: Service, E: Executed>(
-    value: &mut Value<S>,
-    calls: &mut E,
-    update: &LogUpdate<S::Op>,
-) -> Result<(), NoMemory>
-    requires { IsLogged S.Op.kind_of (length value.old.val_ts) update.now }
-    ensures ok { OnOk result (progress value.new (E.known calls.new) ≡ rule S.meaning 1 (update.now ∷ []) (progress value.old (E.known calls.old))) }
-    ensures grown { take (length (E.known calls.old)) (E.known calls.new) ≡ E.known calls.old }
-    ensures err_value { OnErr result (value.new ≡ value.old) }
-    ensures err_calls { OnErr result (E.known calls.new ≡ E.known calls.old) }
-    ensures parts { length value.new.val_ts ≡ length value.old.val_ts }
-    ensures known { AllKnown (length value.old.val_ts) (E.known calls.old) → AllKnown (length value.old.val_ts) (E.known calls.new) }
-{
-    if update.prev.le(value.val_ts()) {
         execute(value, calls, update)?;
     }
     Ok(())
@@ -184,17 +164,14 @@ pub fn apply_logged<S: Service, E: Executed>(
     calls: &mut E,
 ) -> Result<(), NoMemory>
     requires { AllLogged S.Op.kind_of (length value.old.val_ts) updates.now }
-    ensures ok { let todo = waiting_of value.old.val_ts updates.now in OnOk result (progress value.new (E.known calls.new) ≡ rule S.meaning (length todo) todo (progress value.old (E.known calls.old))) }
-    ensures err_value { OnErr result (length (waiting_of value.old.val_ts updates.now) ≤ 1 → value.new ≡ value.old) }
-    ensures err_calls { OnErr result (length (waiting_of value.old.val_ts updates.now) ≤ 1 → E.known calls.new ≡ E.known calls.old) }
-    ensures grown { take (length (E.known calls.old)) (E.known calls.new) ≡ E.known calls.old }
-    ensures parts { length value.new.val_ts ≡ length value.old.val_ts }
-    ensures known { AllKnown (length value.old.val_ts) (E.known calls.old) → AllKnown (length value.old.val_ts) (E.known calls.new) }
+    ensures ok { OnOk result (progress value.new (E.known calls.new)
+        ≡ all_ready S.meaning updates.now (progress value.old (E.known calls.old))) }
+
+    // What stays, also where memory ends.
+    ensures err { OnErr result (length (waiting_of value.old.val_ts updates.now) ≤ 1
+        → progress value.new (E.known calls.new) ≡ progress value.old (E.known calls.old)) }
+    ensures goes_on { GoesOn (progress value.old (E.known calls.old)) (progress value.new (E.known calls.new)) }
 {
     let found = waiting(alloc, updates, value.val_ts())?;
-    match found.as_slice() {
-        [] => Ok(()),
-        [only] => apply_only(value, calls, only),
-        _ => apply_all(value, calls, found),
-    }
+    apply_all(value, calls, found)
 }

@@ -5,6 +5,3 @@ mod applying;
 mod value;
 
 pub use value::Value;
-
-#[cfg(test)]
-mod tests;

@@ -1,15 +1,16 @@
 //! The service's value, with the stamp of what was applied to it.
-ghost use Rattle.std.specs.Prelude.{◌≡◌, ◌≤◌, ◌↔◌, List, length, replicate, take, IsTrue, IfOk, OnOk, OnErr};
+ghost use Rattle.std.specs.Prelude.{◌≡◌, ◌≤◌, ◌↔◌, List, length, replicate, IsTrue, IfOk, OnOk, OnErr};
 ghost use Rattle.lr_base.specs.declared.messages.Known.{Known};
 ghost use Rattle.lr_base.specs.declared.names.Cid.{Cid};
 ghost use Rattle.lr_base.specs.Kinds.{IsQuery, IsUpdate};
-ghost use Rattle.lr_base.specs.Logged.{AllKnown, AllLogged};
-ghost use Rattle.lr_base.specs.Rules.{answer_of, apply_ready as rule, waiting};
+ghost use Rattle.lr_base.specs.Limits.{most_parts};
+ghost use Rattle.lr_base.specs.Logged.{AllLogged};
+ghost use Rattle.lr_base.specs.Rules.{answer_of, waiting};
 ghost use Rattle.lr_base.specs.Stamps.{join};
-ghost use Rattle.lr_value.specs.Applied.{progress};
+ghost use Rattle.lr_value.specs.Applied.{GoesOn, all_ready, progress};
 ghost use Rattle.lr_value.specs.Waiting.{NoneReady};
 
-use crate::applying::{apply_logged, count_waiting, none_ready};
+use crate::applying::{apply_logged, none_ready};
 use lr_base::lr_service::Service;
 use lr_base::{Executed, LogUpdate, NoMemory, Stamp, Text};
 use std::alloc::Global;
@@ -35,7 +36,7 @@ impl<S: Service> Value<S> {
     /// The service's start, to which nothing was applied.
     pub fn new(alloc: Global, parts: u8) -> Result<Self, NoMemory>
         requires some { 2 ≤ parts }
-        requires most { parts ≤ 10 }
+        requires most { parts ≤ most_parts }
         ensures value { IfOk result (λ made. made.value ≡ S.meaning.start) }
         ensures val_ts { IfOk result (λ made. made.val_ts ≡ replicate parts 0) }
     {
@@ -77,7 +78,8 @@ impl<S: Service> Value<S> {
     pub fn read(&self, label: &Stamp, op: &S::Op) -> Result<Option<Text>, NoMemory>
         requires parts { length label.now ≡ length self.now.val_ts }
         requires query { IsQuery (S.Op.kind_of op.now) }
-        ensures { IfOk result (λ answer. answer ≡ answer_of S.meaning self.now.value self.now.val_ts label.now op.now) }
+        ensures { IfOk result (λ answer.
+            answer ≡ answer_of S.meaning self.now.value self.now.val_ts label.now op.now) }
     {
         if !label.le(&self.val_ts) {
             return Ok(None);
@@ -90,35 +92,30 @@ impl<S: Service> Value<S> {
     pub fn is_settled(&self, updates: &[LogUpdate<S::Op>]) -> bool
         requires { AllLogged S.Op.kind_of (length self.now.val_ts) updates.now }
         ensures none { IsTrue result ↔ NoneReady self.now.val_ts updates.now }
-        ensures idle { IsTrue result → (calls : List (Cid × Known)) → (let todo = waiting self.now.val_ts updates.now in rule S.meaning (length todo) todo (progress self.now calls) ≡ progress self.now calls) }
+        ensures idle { IsTrue result → (calls : List (Cid × Known))
+            → all_ready S.meaning updates.now (progress self.now calls) ≡ progress self.now calls }
     {
         none_ready(updates, &self.val_ts)
     }
 
-    /// How many logged updates don't count as applied.
-    pub fn count_waiting(&self, updates: &[LogUpdate<S::Op>]) -> usize
-        requires { AllLogged S.Op.kind_of (length self.now.val_ts) updates.now }
-        ensures { result ≡ length (waiting self.now.val_ts updates.now) }
-    {
-        count_waiting(updates, &self.val_ts)
-    }
-
-    /// Applies the logged updates that are ready, each call once: of those that wait, the first whose causes are applied comes first.
+    /// Applies the logged updates that are ready, each call once.
+    /// Of those that wait, the first whose causes are applied comes first.
     /// It ends where none that isn't applied has its causes applied.
-    /// Where more than one waits, after want of memory nothing is promised of the value, and of the table only that no call left it.
+    /// Where more than one waits, want of memory may come anywhere on the way.
     pub fn apply_ready<E: Executed>(
         &mut self,
         updates: &[LogUpdate<S::Op>],
         calls: &mut E,
     ) -> Result<(), NoMemory>
         requires { AllLogged S.Op.kind_of (length self.old.val_ts) updates.now }
-        ensures ok { let todo = waiting self.old.val_ts updates.now in OnOk result (progress self.new (E.known calls.new) ≡ rule S.meaning (length todo) todo (progress self.old (E.known calls.old))) }
+        ensures ok { OnOk result (progress self.new (E.known calls.new)
+            ≡ all_ready S.meaning updates.now (progress self.old (E.known calls.old))) }
         ensures ended { OnOk result (NoneReady self.new.val_ts updates.now) }
-        ensures err_value { OnErr result (length (waiting self.old.val_ts updates.now) ≤ 1 → self.new ≡ self.old) }
-        ensures err_calls { OnErr result (length (waiting self.old.val_ts updates.now) ≤ 1 → E.known calls.new ≡ E.known calls.old) }
-        ensures grown { take (length (E.known calls.old)) (E.known calls.new) ≡ E.known calls.old }
-        ensures parts { length self.new.val_ts ≡ length self.old.val_ts }
-        ensures known { AllKnown (length self.old.val_ts) (E.known calls.old) → AllKnown (length self.old.val_ts) (E.known calls.new) }
+
+        // What stays, also where memory ends.
+        ensures err { OnErr result (length (waiting self.old.val_ts updates.now) ≤ 1
+            → progress self.new (E.known calls.new) ≡ progress self.old (E.known calls.old)) }
+        ensures goes_on { GoesOn (progress self.old (E.known calls.old)) (progress self.new (E.known calls.new)) }
     {
         apply_logged(self.alloc, updates, self, calls)
     }

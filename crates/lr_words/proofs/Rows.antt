@@ -1,18 +1,12 @@
 -- Rows that are read, put and found one behind the other.
-use Rattle.std.proofs.Common.{◌≡◌, ◌<◌, ◌≤◌, ◌-◌, ℕ, zero, suc, Bool, true, false, cond, List, [], ◌∷◌, ◌++◌, length, get_or, refl, sym, ◌∙◌, ap, arith, length-append, append_assoc}
+use Rattle.std.proofs.Common.{◌≡◌, ◌-◌, ℕ, suc, true, List, [], ◌∷◌, ◌++◌, length, refl, sym, ◌∙◌, ap, arith, length-append, append_assoc}
 use Rattle.std.specs.Prelude.{Option, Some, Err, slice_get}
-use Rattle.std.specs.List.{insert}
-use Rattle.std.specs.declared.cmp.Ordering.{Ordering}
-use Rattle.std.specs.declared.cmp.Ordering.TheVariants.{Less, Equal, Greater}
-use Rattle.std.specs.Ordering.{nat_cmp, is_le, ordering_reverse}
-use Rattle.std.specs.Cmp.Lexicographic.{slice_cmp}
-use Rattle.std.proofs.lemmas.Cmp.{nat_list_cmp_total}
 use Rattle.std.proofs.lemmas.Bool.{and_parts, and_from}
 use Rattle.lr_base.specs.Bytes.{Reading, Found, Wrong, and_then, times, Reads}
 use Rattle.lr_base.specs.declared.bytes.BadWhat.{BadWhat}
 use Rattle.lr_base.specs.declared.bytes.FieldFault.{FieldFault}
 use Rattle.lr_base.specs.declared.bytes.FieldFault.TheVariants as fault
-use Rattle.lr_words.specs.Formats.{put_word, is_up_to, is_up_to_first, are_in_order, follows}
+use Rattle.lr_words.specs.Formats.{is_up_to, are_in_order, follows}
 use Rattle.lr_words.specs.Lasts.{last_of, IsFault}
 
 -- the element behind a front
@@ -84,52 +78,3 @@ in_order-more (w ∷ []) word order next = and_from _ _ next refl
 in_order-more (w ∷ v ∷ words) word order next =
     let parts = and_parts (is_up_to w v) (are_in_order (v ∷ words)) order in
     and_from _ _ parts.0 (in_order-more (v ∷ words) word parts.1 (ap (λ last. follows last word) (sym (last_of-tail w v words)) ∙ next))
-
--- a word goes in before the first that it is up to
-pub insert-put_word : (word : List ℕ) (words : List (List ℕ)) (place : ℕ) (d : List ℕ) → place ≤ length words → ((k : ℕ) → k < place → is_up_to word (get_or words k []) ≡ false) → (place < length words → is_up_to word (get_or words place d) ≡ true) → insert words place word ≡ put_word word words
-insert-put_word word [] zero d within below here = refl
-insert-put_word word [] (suc place) d within below here = absurd (omega arith)
-insert-put_word word (w ∷ words) zero d within below here =
-    sym (ap (λ b. cond b (word ∷ w ∷ words) (w ∷ put_word word words)) (here (omega arith)))
-insert-put_word word (w ∷ words) (suc place) d within below here =
-    ap (λ (l : List (List ℕ)). w ∷ l) (insert-put_word word words place d (omega arith) (λ k low. below (suc k) (omega arith)) (λ low. here (omega arith)))
-    ∙ sym (ap (λ b. cond b (word ∷ w ∷ words) (w ∷ put_word word words)) (below 0 (omega arith)))
-
--- of two words, one is up to the other
-turned : (o p : Ordering) → o ≡ ordering_reverse p → is_le o ≡ false → is_le p ≡ true
-turned Less p same late = cc
-turned Equal p same late = cc
-turned Greater Less same late = refl
-turned Greater Equal same late = cc
-turned Greater Greater same late = cc
-
--- a word that is up to the first and to a new word is up to the first once that is put in
-up_to_first-put : (w word : List ℕ) (words : List (List ℕ)) → is_up_to w word ≡ true → is_up_to_first w words ≡ true → is_up_to_first w (put_word word words) ≡ true
-up_to_first-put w word [] up first = up
-up_to_first-put w word (v ∷ words) up first = either (is_up_to word v)
-  where
-    either : (b : Bool) → is_up_to_first w (cond b (word ∷ v ∷ words) (v ∷ put_word word words)) ≡ true
-    either true = up
-    either false = first
-
--- words in order are so once a word is put in
-pub put_word-order : (word : List ℕ) (words : List (List ℕ)) → are_in_order words ≡ true → are_in_order (put_word word words) ≡ true
-put_word-order word [] order = refl
-put_word-order word (v ∷ words) order =
-    let parts = and_parts (is_up_to_first v words) (are_in_order words) order in
-    either parts.0 (put_word-order word words parts.1) (is_up_to word v) refl
-  where
-    either : is_up_to_first v words ≡ true → are_in_order (put_word word words) ≡ true → (b : Bool) → is_up_to word v ≡ b → are_in_order (cond b (word ∷ v ∷ words) (v ∷ put_word word words)) ≡ true
-    either first rest true up = and_from _ _ up order
-    either first rest false late =
-        let back : is_up_to v word ≡ true = turned (slice_cmp nat_cmp word v) (slice_cmp nat_cmp v word) (nat_list_cmp_total.antisymm word v) late in
-        and_from _ _ (up_to_first-put v word words back first) rest
-
--- and they are some
-pub some-put_word : (word : List ℕ) (words : List (List ℕ)) → 0 < length (put_word word words)
-some-put_word word [] = omega arith
-some-put_word word (v ∷ words) = either (is_up_to word v)
-  where
-    either : (b : Bool) → 0 < length (cond b (word ∷ v ∷ words) (v ∷ put_word word words))
-    either true = omega arith
-    either false = omega arith

@@ -1,6 +1,6 @@
 -- A tree of entries, seen as a finite map from names.
 use Rattle.std.proofs.Common.{◌≡◌, ℕ, true, List, [], ◌∷◌, ◌++◌, length, cond, refl, sym, ◌∙◌, ap, subst}
-use Rattle.std.specs.Prelude.{Option, Some, None, flat_map, unwrap_or}
+use Rattle.std.specs.Prelude.{Option, Some, None, flat_map}
 use Rattle.std.specs.declared.cmp.Ordering.{Ordering}
 use Rattle.std.specs.declared.cmp.Ordering.TheVariants.{Less, Equal, Greater}
 use Rattle.std.specs.Ordering.{nat_cmp, is_eq, is_lt, ordering_reverse, match_ordering}
@@ -18,7 +18,7 @@ use Rattle.std.proofs.lemmas.Bool.{and_from}
 use Rattle.lr_base.specs.Bytes.{Found, Reading, and_then, count_bytes, count_field, times}
 use Rattle.lr_words.specs.Tables.{Format, Table, entry_bytes, entry_field, is_behind, is_table, table_bytes, table_field}
 use Rattle.lr_words.specs.TableLaws.{fact, is_entry, less}
-use Rattle.lr_words.specs.Formats.{put_word, with_word}
+use Rattle.lr_words.specs.Changes.{changed}
 use Rattle.lr_words.specs.Lasts.{last_of}
 use Rattle.lr_words.proofs.Rows.{last_of-tail}
 
@@ -146,9 +146,10 @@ module _ {V : Type 0} where
       either q Less apart = ap (λ o. cond (is_eq o) (Some value) (tree.get names m q)) apart
       either q Greater apart = ap (λ o. cond (is_eq o) (Some value) (tree.get names m q)) apart
 
--- a name's words with one more
-pub with_word-tree : (m n : BTreeMap (List ℕ) (List (List ℕ))) (name word : List ℕ) (words : List (List ℕ)) (at : Option (List (List ℕ))) (table : Table (List (List ℕ))) → ((q : List ℕ) → tree.get names n q ≡ cond (is_at (names name) q) (Some words) (tree.get names m q))
-    → tree.get names m name ≡ at → words ≡ put_word word (unwrap_or at []) → from_entries {R = names} m.entries ≡ table → from_entries {R = names} n.entries ≡ with_word table name word
-with_word-tree m n name word words at table updates own more is =
-    insert-tree m n name words updates ∙ ap (λ t. insert t name words) is
-    ∙ ap (insert table name) (more ∙ ap (λ o. put_word word (unwrap_or o [])) (sym own ∙ sym (get-tree m name) ∙ ap (λ t. get t name) is))
+  -- a name's value made anew from the one that it has, if it has one
+  pub changed-tree : (m n : BTreeMap (List ℕ) V) (name : List ℕ) (new : V) (change : Option V → V) (at : Option V) (table : Table V) →
+      ((q : List ℕ) → tree.get names n q ≡ cond (is_at (names name) q) (Some new) (tree.get names m q)) →
+      tree.get names m name ≡ at → new ≡ change at → from_entries {R = names} m.entries ≡ table → from_entries {R = names} n.entries ≡ changed table name change
+  changed-tree m n name new change at table updates own is seen =
+      insert-tree m n name new updates ∙ ap (λ t. insert t name new) seen
+      ∙ ap (insert table name) (is ∙ ap change (sym own ∙ sym (get-tree m name) ∙ ap (λ t. get t name) seen))

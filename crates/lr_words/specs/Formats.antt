@@ -1,12 +1,14 @@
 -- The values that stand in tables: numbers, words, and words in order.
-use Rattle.std.specs.Prelude.{ℕ, ◌^◌, ◌==◌, Bool, true, ◌&&◌, nat_lt, if◌then◌else◌, List, [], ◌∷◌, ◌++◌, length, Option, Some, None, flat_map, unwrap_or}
+use Rattle.std.specs.Prelude.{ℕ, ◌^◌, ◌==◌, Bool, true, ◌&&◌, nat_lt, if◌then◌else◌, List, [], ◌∷◌, ◌++◌, length}
+use Rattle.std.specs.Prelude.{Option, Some, None, flat_map, unwrap_or}
 use Rattle.std.specs.List.{list_all}
 use Rattle.std.specs.Ordering.{nat_cmp, is_le}
 use Rattle.std.specs.Cmp.Lexicographic.{slice_cmp}
 use Rattle.std.specs.Fmt.{decimal}
 use Rattle.std.specs.FinMap as map
 use Rattle.byteorder.specs.Endian.{big_bytes}
-use Rattle.lr_base.specs.Bytes.{Reading, Found, Wrong, and_then, count_bytes, count_field, number_field, times}
+use Rattle.lr_base.specs.Bytes.{Bytes, Reading, Found, Wrong, and_then, count_bytes, count_field, number_field, times}
+use Rattle.lr_base.specs.Insertion.{insert_by}
 use Rattle.lr_base.specs.declared.bytes.BadWhat.TheVariants.{Range, Order}
 use Rattle.lr_words.specs.Tables.{Format, Table, word_bytes, word_field}
 use Rattle.lr_words.specs.Word.{is_word}
@@ -16,45 +18,44 @@ abbrev pub number_format : Format ℕ
 number_format = record { is_value = λ number. nat_lt number (2 ^ 64); written = big_bytes 8; field = number_field 8 }
 
 -- words
-abbrev pub word_format : Format (List ℕ)
+abbrev pub word_format : Format Bytes
 word_format = record { is_value = is_word; written = word_bytes; field = word_field }
 
 -- a word doesn't stand behind another
-abbrev pub is_up_to : List ℕ → List ℕ → Bool
+abbrev pub is_up_to : Bytes → Bytes → Bool
 is_up_to a b = is_le (slice_cmp nat_cmp a b)
 
--- a word put among words in order, before those that don't stand before it
-abbrev pub put_word : List ℕ → List (List ℕ) → List (List ℕ)
-put_word word [] = word ∷ []
-put_word word (first ∷ rest) = if is_up_to word first then word ∷ first ∷ rest else first ∷ put_word word rest
+-- the words in order with one more, before those that don't stand before it
+abbrev pub insert_word : Bytes → List Bytes → List Bytes
+insert_word word words = insert_by is_up_to word words
 
 -- a word is up to the first of these, if there is one
-abbrev pub is_up_to_first : List ℕ → List (List ℕ) → Bool
+abbrev pub is_up_to_first : Bytes → List Bytes → Bool
 is_up_to_first word [] = true
 is_up_to_first word (first ∷ rest) = is_up_to word first
 
 -- each word is up to the next
-abbrev pub are_in_order : List (List ℕ) → Bool
+abbrev pub are_in_order : List Bytes → Bool
 are_in_order [] = true
 are_in_order (word ∷ words) = is_up_to_first word words && are_in_order words
 
 -- a word may come next: the one before it, if there is one, is up to it
-abbrev pub follows : Option (List ℕ) → List ℕ → Bool
+abbrev pub follows : Option Bytes → Bytes → Bool
 follows None word = true
 follows (Some last) word = is_up_to last word
 
 -- a word that may come next
-abbrev pub next_word_field : Option (List ℕ) → List ℕ → Reading (List ℕ)
+abbrev pub next_word_field : Option Bytes → Bytes → Reading Bytes
 next_word_field last bytes = and_then (word_field bytes) (λ word rest.
     if follows last word then Found word rest else Wrong (length bytes) Order)
 
 -- words in order, at least one: their count, and then these
-abbrev pub words_field : List ℕ → Reading (List (List ℕ))
+abbrev pub words_field : Bytes → Reading (List Bytes)
 words_field bytes = and_then (count_field bytes) (λ count rest.
     if count == 0 then Wrong (length bytes) Range else times next_word_field count None rest)
 
 -- words in order, with repeats
-abbrev pub words_format : Format (List (List ℕ))
+abbrev pub words_format : Format (List Bytes)
 words_format = record {
   is_value = λ words. nat_lt 0 (length words) && list_all is_word words && are_in_order words;
   written = λ words. count_bytes (length words) ++ flat_map word_bytes words;
@@ -62,13 +63,13 @@ words_format = record {
 }
 
 -- the words of a name, none where it has none
-abbrev pub words_of : Table (List (List ℕ)) → List ℕ → List (List ℕ)
+abbrev pub words_of : Table (List Bytes) → Bytes → List Bytes
 words_of table name = unwrap_or (map.get table name) []
 
 -- the words with one more at a name
-abbrev pub with_word : Table (List (List ℕ)) → List ℕ → List ℕ → Table (List (List ℕ))
-with_word table name word = map.insert table name (put_word word (words_of table name))
+abbrev pub with_word : Table (List Bytes) → Bytes → Bytes → Table (List Bytes)
+with_word table name word = map.insert table name (insert_word word (words_of table name))
 
 -- how words are answered: their count, and then each with a space before it
-abbrev pub words_text : List (List ℕ) → List ℕ
+abbrev pub words_text : List Bytes → Bytes
 words_text words = decimal (length words) ++ flat_map (λ word. 32 ∷ word) words

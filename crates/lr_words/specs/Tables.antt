@@ -1,10 +1,11 @@
 -- Tables: values by name, and how they stand in bytes.
-use Rattle.std.specs.Prelude.{ℕ, Bool, true, ◌&&◌, nat_lt, nat_le, if◌then◌else◌, List, ◌∷◌, ◌++◌, length, take, drop, Option, Some, None, flat_map}
+use Rattle.std.specs.Prelude.{ℕ, Bool, true, ◌&&◌, nat_lt, nat_le, if◌then◌else◌, ◌∷◌, ◌++◌, length, take, drop}
+use Rattle.std.specs.Prelude.{Option, Some, None, flat_map}
 use Rattle.std.specs.List.{list_all}
 use Rattle.std.specs.Ordering.{nat_cmp, is_lt}
 use Rattle.std.specs.Cmp.Lexicographic.{slice_cmp}
 use Rattle.std.specs.FinMap as map
-use Rattle.lr_base.specs.Bytes.{Reading, Found, Wrong, and_then, count_bytes, count_field, number_field, times}
+use Rattle.lr_base.specs.Bytes.{Bytes, Reading, Found, Wrong, and_then, count_bytes, count_field, number_field, times}
 use Rattle.lr_base.specs.declared.bytes.BadWhat.TheVariants.{Short, Range, Order, Value}
 use Rattle.lr_words.specs.Word.{is_word}
 
@@ -15,46 +16,47 @@ Table V = map.FinMap (slice_cmp nat_cmp) V
 -- how values stand in bytes: which are written, with which bytes, and what is read
 pub record Format (V : Type 0) : Type 0 where
   pub is_value : V → Bool
-  pub written : V → List ℕ
-  pub field : List ℕ → Reading V
+  pub written : V → Bytes
+  pub field : Bytes → Reading V
 
 -- the length of a word, and then its bytes
-abbrev pub word_bytes : List ℕ → List ℕ
+abbrev pub word_bytes : Bytes → Bytes
 word_bytes word = length word ∷ word
 
 -- the text of a word of this length
-abbrev pub word_text_field : ℕ → List ℕ → Reading (List ℕ)
+abbrev pub word_text_field : ℕ → Bytes → Reading Bytes
 word_text_field size bytes =
     if nat_lt (length bytes) size then Wrong (length bytes) Short
     else if is_word (take size bytes) then Found (take size bytes) (drop size bytes)
     else Wrong (length bytes) Value
 
 -- a word: its length from 1 to 16, and then so many bytes
-abbrev pub word_field : List ℕ → Reading (List ℕ)
+abbrev pub word_field : Bytes → Reading Bytes
 word_field bytes = and_then (number_field 1 bytes) (λ size rest.
     if nat_le 1 size && nat_le size 16 then word_text_field size rest else Wrong (length bytes) Range)
 
 -- a name stands behind that of the entry before it, if there is one
-abbrev pub is_behind : {V : Type 0} → Option (List ℕ × V) → List ℕ → Bool
+abbrev pub is_behind : {V : Type 0} → Option (Bytes × V) → Bytes → Bool
 is_behind None name = true
 is_behind (Some last) name = is_lt (slice_cmp nat_cmp last.0 name)
 
 -- an entry: a name behind the one before it, and its value
-abbrev pub entry_field : {V : Type 0} → Format V → Option (List ℕ × V) → List ℕ → Reading (List ℕ × V)
+abbrev pub entry_field : {V : Type 0} → Format V → Option (Bytes × V) → Bytes → Reading (Bytes × V)
 entry_field format last bytes = and_then (word_field bytes) (λ name rest.
-    if is_behind last name then and_then (format.field rest) (λ value end. Found (name, value) end) else Wrong (length bytes) Order)
+    if is_behind last name then and_then (format.field rest) (λ value end. Found (name, value) end)
+    else Wrong (length bytes) Order)
 
 -- a table: the count of its entries, and then these
-abbrev pub table_field : {V : Type 0} → Format V → List ℕ → Reading (Table V)
+abbrev pub table_field : {V : Type 0} → Format V → Bytes → Reading (Table V)
 table_field format bytes = and_then (count_field bytes) (λ count rest.
     and_then (times (entry_field format) count None rest) (λ entries end. Found (map.from_sorted entries) end))
 
 -- the bytes of an entry
-abbrev pub entry_bytes : {V : Type 0} → Format V → List ℕ × V → List ℕ
+abbrev pub entry_bytes : {V : Type 0} → Format V → Bytes × V → Bytes
 entry_bytes format entry = word_bytes entry.0 ++ format.written entry.1
 
 -- the bytes of a table
-abbrev pub table_bytes : {V : Type 0} → Format V → Table V → List ℕ
+abbrev pub table_bytes : {V : Type 0} → Format V → Table V → Bytes
 table_bytes format table = count_bytes (map.len table) ++ flat_map (entry_bytes format) (map.entries table)
 
 -- a table whose names are words, with values that are written

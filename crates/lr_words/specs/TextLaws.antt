@@ -1,5 +1,7 @@
 -- What operations' texts and answers are made of is printable and short.
-use Rattle.std.proofs.Common.{◌≡◌, ◌≢◌, ◌<◌, ◌≤◌, ◌+◌, ◌/◌, ◌%◌, ◌^◌, ◌==◌, ℕ, zero, suc, Bool, true, false, ◌&&◌, nat_le, nat_lt, cond, List, [], ◌∷◌, ◌++◌, get_or, length, length-append, refl, sym, ◌∙◌, ap, arith, le-leb, leb-true}
+use Rattle.std.proofs.Common.{◌≡◌, ◌≢◌, ◌<◌, ◌≤◌, ◌+◌, ◌/◌, ◌%◌, ◌^◌, ◌==◌, ℕ, zero, suc, Bool, true, false, ◌&&◌}
+use Rattle.std.proofs.Common.{nat_le, nat_lt, cond, List, [], ◌∷◌, ◌++◌, get_or, length, length-append, refl, sym}
+use Rattle.std.proofs.Common.{◌∙◌, ap, arith, le-leb, leb-true}
 use Rattle.std.specs.Prelude.{flat_map, OnOk, Result, Ok, Err}
 use Rattle.std.specs.Fmt.{decimal, digits, digits_onto, digit_glyph}
 use Rattle.std.specs.List.{list_all}
@@ -7,13 +9,15 @@ use Rattle.std.proofs.Math.Nat.{mod-lt}
 use Rattle.std.proofs.lemmas.Bool.{and_parts, eq-eqb, lt-ltb}
 use Rattle.std.proofs.lemmas.Fmt.{length-decimal-le}
 use Rattle.std.proofs.lemmas.List.Folds.{list_all-append}
+use Rattle.lr_base.specs.Bytes.{Bytes}
 use Rattle.lr_base.specs.Meaning.{is_printable}
 use Rattle.lr_words.specs.Formats.{words_text}
 use Rattle.lr_words.specs.Word.{is_word, is_word_byte}
 use Rattle.lr_words.specs.WordTexts.{is_word-parts, same-front, word-no_space}
 
 -- digits are printable
-glyph-printable : (n : ℕ) (acc : List ℕ) → is_printable acc ≡ true → is_printable (digit_glyph false (n % 10) ∷ acc) ≡ true
+glyph-printable : (n : ℕ) (acc : Bytes) → is_printable acc ≡ true
+    → is_printable (digit_glyph false (n % 10) ∷ acc) ≡ true
 glyph-printable n acc rest =
     let below : n % 10 < 10 = mod-lt n (omega arith) in
     let low : nat_lt (n % 10) 10 ≡ true = lt-ltb (n % 10) 10 below in
@@ -22,13 +26,15 @@ glyph-printable n acc rest =
     rw (low, least, most) rest
 
 -- digits before a printable text make a printable text
-onto-printable : (k n : ℕ) (acc : List ℕ) → is_printable acc ≡ true → is_printable (digits_onto k 10 false n acc) ≡ true
+onto-printable : (k n : ℕ) (acc : Bytes) → is_printable acc ≡ true → is_printable (digits_onto k 10 false n acc) ≡ true
 onto-printable zero n acc rest = rest
 onto-printable (suc k) n acc rest =
-    either (n / 10 == 0) (digit_glyph false (n % 10) ∷ acc) (digits_onto k 10 false (n / 10) (digit_glyph false (n % 10) ∷ acc))
-    (glyph-printable n acc rest) (onto-printable k (n / 10) (digit_glyph false (n % 10) ∷ acc) (glyph-printable n acc rest))
+    either (n / 10 == 0) (digit_glyph false (n % 10) ∷ acc)
+    (digits_onto k 10 false (n / 10) (digit_glyph false (n % 10) ∷ acc))
+    (glyph-printable n acc rest) (onto-printable k (n / 10) (digit_glyph false (n % 10) ∷ acc)
+    (glyph-printable n acc rest))
   where
-    either : (b : Bool) (x y : List ℕ) → is_printable x ≡ true → is_printable y ≡ true → is_printable (cond b x y) ≡ true
+    either : (b : Bool) (x y : Bytes) → is_printable x ≡ true → is_printable y ≡ true → is_printable (cond b x y) ≡ true
     either true x y first second = first
     either false x y first second = second
 
@@ -53,22 +59,22 @@ byte-printable x byte = go (nat_le 97 x && nat_le x 122) refl
         let parts = and_parts (nat_le 48 x) (nat_le x 57) digit in
         both (omega (arith, leb-true 48 x parts.0)) (omega (arith, leb-true x 57 parts.1))
 
-bytes-printable : (text : List ℕ) → list_all is_word_byte text ≡ true → is_printable text ≡ true
+bytes-printable : (text : Bytes) → list_all is_word_byte text ≡ true → is_printable text ≡ true
 bytes-printable [] pass = refl
 bytes-printable (x ∷ text) pass =
     let parts = and_parts (is_word_byte x) (list_all is_word_byte text) pass in
     rw (byte-printable x parts.0) (bytes-printable text parts.1)
 
 -- two printable texts make one
-pub append-printable : (a b : List ℕ) → is_printable a ≡ true → is_printable b ≡ true → is_printable (a ++ b) ≡ true
+pub append-printable : (a b : Bytes) → is_printable a ≡ true → is_printable b ≡ true → is_printable (a ++ b) ≡ true
 append-printable a b first second = list_all-append _ a b ∙ rw (first, second) refl
 
 -- a word is printable
-pub word-printable : (word : List ℕ) → is_word word ≡ true → is_printable word ≡ true
+pub word-printable : (word : Bytes) → is_word word ≡ true → is_printable word ≡ true
 word-printable word is = bytes-printable word (is_word-parts word is).2
 
 -- a word has at most 16 bytes
-pub word-short : (word : List ℕ) → is_word word ≡ true → length word ≤ 16
+pub word-short : (word : Bytes) → is_word word ≡ true → length word ≤ 16
 word-short word is = (is_word-parts word is).1
 
 -- a number's text has at most 20 bytes
@@ -76,44 +82,55 @@ pub decimal-short : (n : ℕ) → n < 2 ^ 64 → length (decimal n) ≤ 20
 decimal-short n fits = length-decimal-le 20 n (omega arith) (omega (arith, fits)) fits
 
 -- words, each behind a space, are printable
-each-printable : (words : List (List ℕ)) → list_all is_word words ≡ true → is_printable (flat_map (λ word. 32 ∷ word) words) ≡ true
+each-printable : (words : List Bytes) → list_all is_word words ≡ true
+    → is_printable (flat_map (λ word. 32 ∷ word) words) ≡ true
 each-printable [] all = refl
 each-printable (word ∷ words) all =
     let parts = and_parts (is_word word) (list_all is_word words) all in
-    append-printable (32 ∷ word) (flat_map (λ word. 32 ∷ word) words) (word-printable word parts.0) (each-printable words parts.1)
+    append-printable (32 ∷ word) (flat_map (λ word. 32 ∷ word) words) (word-printable word parts.0)
+    (each-printable words parts.1)
 
 -- words in an answer are printable
-pub words_text-printable : (words : List (List ℕ)) → list_all is_word words ≡ true → is_printable (words_text words) ≡ true
-words_text-printable words all = append-printable (decimal (length words)) (flat_map (λ word. 32 ∷ word) words) (decimal-printable (length words)) (each-printable words all)
+pub words_text-printable : (words : List Bytes) → list_all is_word words ≡ true → is_printable (words_text words) ≡ true
+words_text-printable words all = append-printable (decimal (length words)) (flat_map (λ word. 32 ∷ word) words)
+    (decimal-printable (length words)) (each-printable words all)
 
 -- two words with a space between them are told apart
-pub two-words : (m a n b : List ℕ) → (is_word m && is_word a) ≡ true → (is_word n && is_word b) ≡ true → m ++ 32 ∷ a ≡ n ++ 32 ∷ b → (m ≡ n) × (a ≡ b)
-two-words m a n b first second same = same-front m n a b (word-no_space m (and_parts (is_word m) (is_word a) first).0) (word-no_space n (and_parts (is_word n) (is_word b) second).0) same
+pub two-words : (m a n b : Bytes) → (is_word m && is_word a) ≡ true → (is_word n && is_word b) ≡ true
+    → m ++ 32 ∷ a ≡ n ++ 32 ∷ b → (m ≡ n) × (a ≡ b)
+two-words m a n b first second same =
+    same-front m n a b (word-no_space m (and_parts (is_word m) (is_word a) first).0)
+    (word-no_space n (and_parts (is_word n) (is_word b) second).0) same
 
 -- they are short
-pub two-short : (a b : List ℕ) → (is_word a && is_word b) ≡ true → length (a ++ 32 ∷ b) ≤ 33
+pub two-short : (a b : Bytes) → (is_word a && is_word b) ≡ true → length (a ++ 32 ∷ b) ≤ 33
 two-short a b is =
     let parts = and_parts (is_word a) (is_word b) is in
     omega (arith, length-append a (32 ∷ b), word-short a parts.0, word-short b parts.1)
 
 -- and printable
-pub two-printable : (a b : List ℕ) → (is_word a && is_word b) ≡ true → is_printable (a ++ 32 ∷ b) ≡ true
+pub two-printable : (a b : Bytes) → (is_word a && is_word b) ≡ true → is_printable (a ++ 32 ∷ b) ≡ true
 two-printable a b is =
     let parts = and_parts (is_word a) (is_word b) is in
     append-printable a (32 ∷ b) (word-printable a parts.0) (word-printable b parts.1)
 
 -- texts that differ at a byte aren't one
-pub apart-at : (a b : List ℕ) (place : ℕ) → (get_or a place 0 == get_or b place 0) ≡ false → a ≢ b
+pub apart-at : (a b : Bytes) (place : ℕ) → (get_or a place 0 == get_or b place 0) ≡ false → a ≢ b
 apart-at a b place differ = λ same.
-    let no : false ≡ true = sym differ ∙ eq-eqb (get_or a place 0) (get_or b place 0) (ap (λ text. get_or text place 0) same) in
+    let no : false ≡ true = sym differ
+    ∙ eq-eqb (get_or a place 0) (get_or b place 0) (ap (λ text. get_or text place 0) same) in
     cc
 
 -- what was written is printable, where what it is made of was found to be words
-pub word-written : {T E : Type 0} (result : Result T E) (word : List ℕ) → OnOk result (is_word word ≡ true) → OnOk result (is_printable word ≡ true)
+pub word-written : {T E : Type 0} (result : Result T E) (word : Bytes) → OnOk result (is_word word ≡ true)
+    → OnOk result (is_printable word ≡ true)
 word-written (Ok done) word is = word-printable word is
 word-written (Err fault) word is = tt
 
 -- and so behind a front and a space
-pub words-written : {T E : Type 0} (result : Result T E) (front : List ℕ) (words : List (List ℕ)) → is_printable front ≡ true → OnOk result (list_all is_word words ≡ true) → OnOk result (is_printable (front ++ 32 ∷ words_text words) ≡ true)
-words-written (Ok done) front words first all = append-printable front (32 ∷ words_text words) first (words_text-printable words all)
+pub words-written : {T E : Type 0} (result : Result T E) (front : Bytes) (words : List Bytes)
+    → is_printable front ≡ true → OnOk result (list_all is_word words ≡ true)
+    → OnOk result (is_printable (front ++ 32 ∷ words_text words) ≡ true)
+words-written (Ok done) front words first all =
+    append-printable front (32 ∷ words_text words) first (words_text-printable words all)
 words-written (Err fault) front words first all = tt

@@ -1,5 +1,5 @@
--- Words in order: it makes no difference which of two words is put among them first, and they stay in order.
-use Rattle.std.proofs.Common.{◌≡◌, ℕ, Bool, true, false, cond, List, [], ◌∷◌, refl, sym, ◌∙◌, ap}
+-- Words in order: it makes no difference which of two words is inserted first, and they stay in order.
+use Rattle.std.proofs.Common.{◌≡◌, Bool, true, false, cond, List, [], ◌∷◌, refl, sym, ◌∙◌, ap}
 use Rattle.std.specs.List.{list_all}
 use Rattle.std.specs.Ordering.{nat_cmp, is_le, ordering_reverse}
 use Rattle.std.specs.declared.cmp.Ordering.{Ordering}
@@ -8,19 +8,21 @@ use Rattle.std.specs.Cmp.Lexicographic.{slice_cmp}
 use Rattle.std.specs.FinMap.{slice_cmp-IsAntisymmetric, nat_cmp-IsAntisymmetric}
 use Rattle.std.proofs.lemmas.Bool.{and_parts}
 use Rattle.std.proofs.lemmas.Cmp.{nat_list_cmp_total}
-use Rattle.lr_words.specs.Formats.{is_up_to, is_up_to_first, put_word, are_in_order}
+use Rattle.lr_base.specs.Bytes.{Bytes}
+use Rattle.lr_base.specs.InsertionLaws.{inserted-commute}
+use Rattle.lr_words.specs.Formats.{is_up_to, is_up_to_first, insert_word, are_in_order}
 use Rattle.lr_words.specs.Word.{is_word}
 
 -- how two words compare
-abbrev compared : List ℕ → List ℕ → Ordering
+abbrev compared : Bytes → Bytes → Ordering
 compared = slice_cmp nat_cmp
 
 -- what compares turned round
-turned : (a b : List ℕ) (o : Ordering) → compared b a ≡ o → compared a b ≡ ordering_reverse o
+turned : (a b : Bytes) (o : Ordering) → compared b a ≡ o → compared a b ≡ ordering_reverse o
 turned a b o is = nat_list_cmp_total.antisymm a b ∙ ap ordering_reverse is
 
 -- of two words one is up to the other
-pub up_to-other : (a b : List ℕ) → is_up_to a b ≡ false → is_up_to b a ≡ true
+pub up_to-other : (a b : Bytes) → is_up_to a b ≡ false → is_up_to b a ≡ true
 up_to-other a b not = go (compared a b) refl
   where
     go : (o : Ordering) → compared a b ≡ o → is_up_to b a ≡ true
@@ -29,7 +31,7 @@ up_to-other a b not = go (compared a b) refl
     go Greater is = ap is_le (turned b a Greater is)
 
 -- words that are up to each other are one
-pub up_to-both : (a b : List ℕ) → is_up_to a b ≡ true → is_up_to b a ≡ true → a ≡ b
+pub up_to-both : (a b : Bytes) → is_up_to a b ≡ true → is_up_to b a ≡ true → a ≡ b
 up_to-both a b first second = go (compared a b) refl
   where
     go : (o : Ordering) → compared a b ≡ o → a ≡ b
@@ -38,79 +40,64 @@ up_to-both a b first second = go (compared a b) refl
     go Greater is = let no : false ≡ true = ap is_le (sym is) ∙ first in cc
 
 -- a word that is up to one that is up to a third is up to it
-pub up_to-trans : (a b c : List ℕ) → is_up_to a b ≡ true → is_up_to b c ≡ true → is_up_to a c ≡ true
+pub up_to-trans : (a b c : Bytes) → is_up_to a b ≡ true → is_up_to b c ≡ true → is_up_to a c ≡ true
 up_to-trans a b c first second = go (compared a b) (compared b c) refl refl
   where
     go : (o p : Ordering) → compared a b ≡ o → compared b c ≡ p → is_up_to a c ≡ true
     go Equal p is next = ap is_le (nat_list_cmp_total.congr a b c is) ∙ second
     go Greater p is next = let no : false ≡ true = ap is_le (sym is) ∙ first in cc
     go Less Less is next = ap is_le (nat_list_cmp_total.trans a b c is next)
-    go Less Equal is next = ap (λ word. is_up_to a word) (sym (slice_cmp-IsAntisymmetric nat_cmp-IsAntisymmetric b c next)) ∙ first
+    go Less Equal is next = ap (λ word. is_up_to a word)
+        (sym (slice_cmp-IsAntisymmetric nat_cmp-IsAntisymmetric b c next)) ∙ first
     go Less Greater is next = let no : false ≡ true = ap is_le (sym next) ∙ second in cc
 
--- a word put before another, in either order of putting
-pairs : (a b : List ℕ) (rest : List (List ℕ)) → cond (is_up_to a b) (a ∷ b ∷ rest) (b ∷ a ∷ rest) ≡ cond (is_up_to b a) (b ∷ a ∷ rest) (a ∷ b ∷ rest)
-pairs a b rest = go (is_up_to a b) (is_up_to b a) refl refl
+-- words that compare alike both ways are one
+up_to-one : (a b : Bytes) → is_up_to a b ≡ is_up_to b a → a ≡ b
+up_to-one a b alike = go (is_up_to a b) refl
   where
-    go : (s t : Bool) → is_up_to a b ≡ s → is_up_to b a ≡ t → cond s (a ∷ b ∷ rest) (b ∷ a ∷ rest) ≡ cond t (b ∷ a ∷ rest) (a ∷ b ∷ rest)
-    go true true first second = let same : a ≡ b = up_to-both a b first second in cc
-    go true false first second = refl
-    go false true first second = refl
-    go false false first second = let no : false ≡ true = sym second ∙ up_to-other a b first in cc
+    go : (up : Bool) → is_up_to a b ≡ up → a ≡ b
+    go true is = up_to-both a b is (sym alike ∙ is)
+    go false is = let no : false ≡ true = sym is ∙ alike ∙ up_to-other a b is in cc
 
--- what is put first makes no difference
-pub put_word-commute : (a b : List ℕ) (words : List (List ℕ)) → put_word a (put_word b words) ≡ put_word b (put_word a words)
-put_word-commute a b [] = pairs a b []
-put_word-commute a b (x ∷ words) = go (put_word-commute a b words) (is_up_to a x) (is_up_to b x) refl refl
-  where
-    go : put_word a (put_word b words) ≡ put_word b (put_word a words) → (s t : Bool) → is_up_to a x ≡ s → is_up_to b x ≡ t →
-        put_word a (cond t (b ∷ x ∷ words) (x ∷ put_word b words)) ≡ put_word b (cond s (a ∷ x ∷ words) (x ∷ put_word a words))
-    go below true true first second = rw (first, second) (pairs a b (x ∷ words))
-    go below true false first second =
-        let apart : is_up_to b a ≡ false = behind (is_up_to b a) refl in
-        rw (first, second, apart) refl
-      where
-        behind : (u : Bool) → is_up_to b a ≡ u → is_up_to b a ≡ false
-        behind false is = is
-        behind true is = let no : false ≡ true = sym second ∙ up_to-trans b a x is first in cc
-    go below false true first second =
-        let apart : is_up_to a b ≡ false = behind (is_up_to a b) refl in
-        rw (first, second, apart) refl
-      where
-        behind : (u : Bool) → is_up_to a b ≡ u → is_up_to a b ≡ false
-        behind false is = is
-        behind true is = let no : false ≡ true = sym first ∙ up_to-trans a b x is second in cc
-    go below false false first second = rw (first, second) (ap (λ rest. x ∷ rest) below)
+-- which of two words is inserted first makes no difference
+pub insert_word-commute : (a b : Bytes) (words : List Bytes)
+    → insert_word a (insert_word b words) ≡ insert_word b (insert_word a words)
+insert_word-commute a b words = inserted-commute is_up_to up_to-one up_to-trans a b words
 
--- a word that is put among words is one of them
-pub put_word-words : (a : List ℕ) (words : List (List ℕ)) → is_word a ≡ true → list_all is_word words ≡ true → list_all is_word (put_word a words) ≡ true
-put_word-words a [] is all = rw is refl
-put_word-words a (x ∷ words) is all = go (put_word-words a words is parts.1) (is_up_to a x)
+-- words with one more inserted are words
+pub insert_word-words : (a : Bytes) (words : List Bytes) → is_word a ≡ true → list_all is_word words ≡ true
+    → list_all is_word (insert_word a words) ≡ true
+insert_word-words a [] is all = rw is refl
+insert_word-words a (x ∷ words) is all = go (insert_word-words a words is parts.1) (is_up_to a x)
   where
     parts : (is_word x ≡ true) × (list_all is_word words ≡ true)
     parts = and_parts (is_word x) (list_all is_word words) all
 
-    go : list_all is_word (put_word a words) ≡ true → (s : Bool) → list_all is_word (cond s (a ∷ x ∷ words) (x ∷ put_word a words)) ≡ true
+    go : list_all is_word (insert_word a words) ≡ true → (s : Bool)
+        → list_all is_word (cond s (a ∷ x ∷ words) (x ∷ insert_word a words)) ≡ true
     go below true = rw (is, parts.0, parts.1) refl
     go below false = rw (parts.0, below) refl
 
--- what is put behind a word that is up to it and to the others keeps that word the first
-first-put : (x a : List ℕ) (words : List (List ℕ)) → is_up_to x a ≡ true → is_up_to_first x words ≡ true → is_up_to_first x (put_word a words) ≡ true
-first-put x a [] up first = up
-first-put x a (y ∷ words) up first = go (is_up_to a y)
+-- a word that is up to the others and to one more stays the first
+first-inserted : (x a : Bytes) (words : List Bytes) → is_up_to x a ≡ true → is_up_to_first x words ≡ true
+    → is_up_to_first x (insert_word a words) ≡ true
+first-inserted x a [] up first = up
+first-inserted x a (y ∷ words) up first = go (is_up_to a y)
   where
-    go : (s : Bool) → is_up_to_first x (cond s (a ∷ y ∷ words) (y ∷ put_word a words)) ≡ true
+    go : (s : Bool) → is_up_to_first x (cond s (a ∷ y ∷ words) (y ∷ insert_word a words)) ≡ true
     go true = up
     go false = first
 
 -- words in order stay in order
-pub put_word-in_order : (a : List ℕ) (words : List (List ℕ)) → are_in_order words ≡ true → are_in_order (put_word a words) ≡ true
-put_word-in_order a [] ordered = refl
-put_word-in_order a (x ∷ words) ordered = go (put_word-in_order a words parts.1) (is_up_to a x) refl
+pub insert_word-in_order : (a : Bytes) (words : List Bytes) → are_in_order words ≡ true
+    → are_in_order (insert_word a words) ≡ true
+insert_word-in_order a [] ordered = refl
+insert_word-in_order a (x ∷ words) ordered = go (insert_word-in_order a words parts.1) (is_up_to a x) refl
   where
     parts : (is_up_to_first x words ≡ true) × (are_in_order words ≡ true)
     parts = and_parts (is_up_to_first x words) (are_in_order words) ordered
 
-    go : are_in_order (put_word a words) ≡ true → (s : Bool) → is_up_to a x ≡ s → are_in_order (cond s (a ∷ x ∷ words) (x ∷ put_word a words)) ≡ true
+    go : are_in_order (insert_word a words) ≡ true → (s : Bool) → is_up_to a x ≡ s
+        → are_in_order (cond s (a ∷ x ∷ words) (x ∷ insert_word a words)) ≡ true
     go below true up = rw (up, parts.0, parts.1) refl
-    go below false up = rw (first-put x a words (up_to-other a x up) parts.0, below) refl
+    go below false up = rw (first-inserted x a words (up_to-other a x up) parts.0, below) refl

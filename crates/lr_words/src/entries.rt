@@ -97,7 +97,8 @@ pub(crate) fn insert<V: Drop>(
     name: Word,
     value: V,
 ) -> Result<(), NoMemory>
-    ensures entries { OnOk result (entries.new.entries ≡ tree.insert_entry (slice_cmp nat_cmp) entries.old.entries name value) }
+    ensures entries { OnOk result (entries.new.entries
+        ≡ tree.insert_entry (slice_cmp nat_cmp) entries.old.entries name value) }
     ensures updates { OnOk result (tree.Updates (slice_cmp nat_cmp) entries.old entries.new name (Some value)) }
     ensures before { tree.IsOrdered (slice_cmp nat_cmp) entries.old }
     ensures after { tree.IsOrdered (slice_cmp nat_cmp) entries.new }

@@ -1,10 +1,11 @@
 //! Words in order, as they stand behind one name.
-ghost use Rattle.std.specs.Prelude.{◌≡◌, ◌≤◌, ◌<◌, ◌++◌, ◌∷◌, [], ℕ, List, None, length, flat_map, true, IfOk, OnOk, OnErr};
+ghost use Rattle.std.specs.Prelude.{◌≡◌, ◌≤◌, ◌<◌, ℕ, true, None, IfOk, OnOk, OnErr};
+ghost use Rattle.std.specs.Prelude.{List, [], ◌∷◌, ◌++◌, length, flat_map};
 ghost use Rattle.std.specs.List.{insert, list_all};
 ghost use Rattle.lr_base.specs.Bytes.{Reads, times};
 ghost use Rattle.lr_words.specs.Tables.{word_bytes};
 ghost use Rattle.lr_words.specs.Word.{is_word};
-ghost use Rattle.lr_words.specs.Formats.{are_in_order, follows, next_word_field, put_word, words_format, words_text};
+ghost use Rattle.lr_words.specs.Formats.{are_in_order, follows, next_word_field, insert_word, words_format, words_text};
 ghost use Rattle.lr_words.specs.TableLaws.{words-exact};
 ghost use Rattle.lr_words.specs.Lasts.{ReadsRows, last_of};
 
@@ -47,7 +48,7 @@ impl WordList {
 
     /// Adds a word.
     pub fn add(&mut self, word: Word) -> Result<(), NoMemory>
-        ensures ok { OnOk result (self.new ≡ put_word word self.old) }
+        ensures ok { OnOk result (self.new ≡ insert_word word self.old) }
         ensures err { OnErr result (self.new ≡ self.old) }
     {
         let place = place_of(&self.words, &word);
@@ -75,7 +76,7 @@ impl WordList {
 // The place before the first word that the new one is up to.
 fn place_of(words: &[Word], word: &Word) -> usize
     ensures within { result ≤ length words.now }
-    ensures place { insert words.now result word.now ≡ put_word word.now words.now }
+    ensures place { insert words.now result word.now ≡ insert_word word.now words.now }
 {
     for (place, known) in words.iter().enumerate() {
         if word <= known {

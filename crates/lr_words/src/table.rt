@@ -1,5 +1,6 @@
 //! Tables: values by word.
-ghost use Rattle.std.specs.Prelude.{◌≡◌, ◌++◌, option_copied, true, IfOk, OnOk, OnErr};
+ghost use Rattle.std.specs.Prelude.{◌≡◌, ◌+◌, ◌%◌, ◌^◌, ◌++◌, true, option_copied, unwrap_or};
+ghost use Rattle.std.specs.Prelude.{IfOk, OnOk, OnErr, IsOk, IsSome};
 ghost use Rattle.std.specs.FinMap as map;
 ghost use Rattle.std.specs.List.{list_all};
 ghost use Rattle.lr_base.specs.Bytes.{Reads};
@@ -102,6 +103,24 @@ impl<V: Stored> Table<V> {
         match entries::entries_field(alloc, count, rest) {
             Ok((entries, end)) => Ok((Table { entries, alloc }, end)),
             Err(fault) => Err(fault),
+        }
+    }
+}
+
+impl Table<u64> {
+    /// Adds to the number of a name, modulo 2^64, where a name without one counts as 0.
+    pub fn add(&mut self, name: &Word, amount: u64) -> Result<(), NoMemory>
+        ensures ok { OnOk result (self.new
+            ≡ map.insert self.old name.now ((unwrap_or (map.get self.old name.now) 0 + amount) % 2 ^ 64)) }
+        ensures known { IsSome (map.get self.old name.now) → IsOk result }
+        ensures err { OnErr result (self.new ≡ self.old) }
+    {
+        match self.entries.get_mut(name) {
+            Some(number) => {
+                *number = number.wrapping_add(amount);
+                Ok(())
+            }
+            None => entries::insert(&mut self.entries, name.copy(), amount),
         }
     }
 }

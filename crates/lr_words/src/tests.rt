@@ -106,11 +106,14 @@ fn again<V: Stored>(alloc: Global, bytes: &[u8]) -> Result<Text, GetFault> {
     }
 }
 
-// What stands in a table once each number was set, and one name was taken out.
+// What stands in a table once numbers were set and added to, and one name was taken out.
 fn numbers_table(alloc: Global) -> Result<Table<u64>, Fail> {
     let mut table = Table::new(alloc);
-    for (name, number) in [("b0", 7), ("c", 3), ("a", 1), ("b0", 258)] {
+    for (name, number) in [("b0", 7), ("c", 3), ("b0", 250)] {
         table.insert(word(name)?, number)?;
+    }
+    for (name, amount) in [("b0", 9), ("a", u64::MAX), ("b0", u64::MAX), ("a", 2)] {
+        table.add(&word(name)?, amount)?;
     }
     table.remove(&word("c")?);
     Ok(table)

@@ -10,7 +10,8 @@ use lr_base::{NoMemory, Text};
 
 /// What stands behind the verb that the text begins with.
 pub fn behind<'a>(text: &'a [u8], verb: &[u8]) -> Option<&'a [u8]>
-    ensures { MatchOption result ((rest : List ℕ) → text.now ≢ verb.now ++ rest) (λ rest. text.now ≡ verb.now ++ rest.now) }
+    ensures { MatchOption result ((rest : List ℕ) → text.now ≢ verb.now ++ rest)
+        (λ rest. text.now ≡ verb.now ++ rest.now) }
 {
     text.strip_prefix(verb)
 }

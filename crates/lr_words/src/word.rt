@@ -1,8 +1,10 @@
 //! Words: the names in operations.
-ghost use Rattle.std.specs.Prelude.{◌≡◌, ◌≢◌, ◌<◌, ◌≤◌, ◌↔◌, ℕ, true, Some, List, ◌∷◌, ◌++◌, length, nat_eq, IsSome, IsNone, IfSome, refl};
+ghost use Rattle.std.specs.Prelude.{◌≡◌, ◌≢◌, ◌<◌, ◌≤◌, ◌↔◌, ℕ, nat_eq, true, refl};
+ghost use Rattle.std.specs.Prelude.{List, ◌∷◌, ◌++◌, length, Some, IsSome, IsNone, IfSome};
 ghost use Rattle.std.specs.List.{list_all};
 ghost use Rattle.std.specs.Cmp.{partial_equiv_from_equiv};
-ghost use Rattle.std.specs.Cmp.Lexicographic.{pointwise, slice_cmp, nat_list_eq_equiv, nat_list_cmp_total, texts_po, texts_ties};
+ghost use Rattle.std.specs.Cmp.Lexicographic.{pointwise, slice_cmp, texts_po, texts_ties};
+ghost use Rattle.std.specs.Cmp.Lexicographic.{nat_list_eq_equiv, nat_list_cmp_total};
 ghost use Rattle.std.specs.Ordering.{nat_cmp};
 ghost use Rattle.lr_words.specs.Word.{is_word, is_word_byte};
 ghost use Rattle.lr_words.specs.WordTexts.{HasNoSpace};
@@ -152,9 +154,7 @@ fn stored(text: &[u8]) -> ArrayVec<u8, MOST_BYTES>
     ensures { result.items ≡ text.now }
 {
     let mut bytes = ArrayVec::new();
-    for byte in text {
-        bytes.push(*byte);
-    }
+    let _all_fit = bytes.try_extend_from_slice(text);
     bytes
 }
 

@@ -1,24 +1,31 @@
 -- Claims keep the law of services.
-use Rattle.std.proofs.Common.{◌≡◌, ◌<◌, ◌≤◌, ◌^◌, ℕ, Bool, true, false, cond, List, ◌∷◌, ◌++◌, length, refl, ap, arith}
+use Rattle.std.proofs.Common.{◌≡◌, ◌<◌, ◌≤◌, ◌^◌, Bool, true, false, cond, ◌∷◌, ◌++◌, length, refl, ap, arith}
 use Rattle.std.specs.Prelude.{Option, Some, None, is_some, unwrap_or, codes}
 use Rattle.std.specs.FinMap as map
 use Rattle.std.proofs.lemmas.Bool.{and_parts}
+use Rattle.lr_base.specs.Bytes.{Bytes}
 use Rattle.lr_base.specs.Kinds.{IsUpdate, are_ordered}
 use Rattle.lr_base.specs.Meaning.{Lawful, is_printable}
 use Rattle.lr_words.specs.Formats.{word_format, words_format, words_of, words_text}
 use Rattle.lr_words.specs.Parts.{IsExactFormat, both, both-exact, one_spelling-in, renamed-exact, spelled-in}
 use Rattle.lr_words.specs.Tables.{Table, is_table, table_of}
 use Rattle.lr_words.specs.TableLaws.{table-exact, word-exact, words-exact}
-use Rattle.lr_words.specs.TableValues.{table-empty, table-get, table-insert, table-remove, table-with_word, with_word-commute, words_of-parts}
-use Rattle.lr_words.specs.TextLaws.{apart-at, append-printable, two-printable, two-short, two-words, word-printable, word-short, words_text-printable}
+use Rattle.lr_words.specs.TableValues.{table-empty, table-get, table-insert, table-remove, table-with_word}
+use Rattle.lr_words.specs.TableValues.{with_word-commute, words_of-parts}
+use Rattle.lr_words.specs.TextLaws.{apart-at, append-printable, two-printable, two-short, two-words, word-printable}
+use Rattle.lr_words.specs.TextLaws.{word-short, words_text-printable}
 use Rattle.lr_words.specs.Word.{is_word}
-use Rattle.svc_claims.specs.Claims.{ClaimsValue, claims, claims_apply, claims_format, claims_is_op, claims_kind, claims_text, claimed, of_tables, tables_of}
+use Rattle.svc_claims.specs.Claims.{ClaimsValue, claims, claims_apply, claims_format, claims_is_op, claims_kind}
+use Rattle.svc_claims.specs.Claims.{claims_text, claimed, of_tables, tables_of}
 use Rattle.svc_claims.specs.declared.op.ClaimsOp.{ClaimsOp}
 use Rattle.svc_claims.specs.declared.op.ClaimsOp.TheVariants.{Note, Claim, Clear, Who}
 
 -- updates that need no order do
-commutes : (v : ClaimsValue) (a b : ClaimsOp) → IsUpdate (claims_kind a) → IsUpdate (claims_kind b) → are_ordered (claims_kind a) (claims_kind b) ≡ false → claims_apply (claims_apply v a) b ≡ claims_apply (claims_apply v b) a
-commutes v (Note m a) (Note n b) first second free = ap (λ notes. of_tables (v.owners, notes)) (with_word-commute v.notes m n a b)
+commutes : (v : ClaimsValue) (a b : ClaimsOp) → IsUpdate (claims_kind a) → IsUpdate (claims_kind b)
+    → are_ordered (claims_kind a) (claims_kind b) ≡ false
+    → claims_apply (claims_apply v a) b ≡ claims_apply (claims_apply v b) a
+commutes v (Note m a) (Note n b) first second free =
+    ap (λ notes. of_tables (v.owners, notes)) (with_word-commute v.notes m n a b)
 commutes v (Note m a) (Claim n b) first second free = refl
 commutes v (Claim m a) (Note n b) first second free = refl
 commutes v (Claim m a) (Claim n b) first second free = let no : true ≡ false = free in cc
@@ -80,15 +87,18 @@ printable_text-of (Clear name) is = word-printable name is
 printable_text-of (Who name) is = word-printable name is
 
 -- the parts of a value's test
-value-parts : (v : ClaimsValue) → claims.is_value v ≡ true → (is_table word_format v.owners ≡ true) × (is_table words_format v.notes ≡ true)
+value-parts : (v : ClaimsValue) → claims.is_value v ≡ true → (is_table word_format v.owners ≡ true)
+    × (is_table words_format v.notes ≡ true)
 value-parts v is = and_parts (is_table word_format v.owners) (is_table words_format v.notes) is
 
 -- two tables make a value
-value-of : (v : ClaimsValue) → is_table word_format v.owners ≡ true → is_table words_format v.notes ≡ true → claims.is_value v ≡ true
+value-of : (v : ClaimsValue) → is_table word_format v.owners ≡ true → is_table words_format v.notes ≡ true
+    → claims.is_value v ≡ true
 value-of v owners notes = rw (owners, notes) refl
 
 -- a claim leaves a table of words
-claimed-table : (owners : Table (List ℕ)) (name who : List ℕ) → is_table word_format owners ≡ true → is_word name ≡ true → is_word who ≡ true → is_table word_format (claimed owners name who) ≡ true
+claimed-table : (owners : Table Bytes) (name who : Bytes) → is_table word_format owners ≡ true → is_word name ≡ true
+    → is_word who ≡ true → is_table word_format (claimed owners name who) ≡ true
 claimed-table owners name who all named is = go (is_some (map.get owners name))
   where
     go : (owned : Bool) → is_table word_format (cond owned owners (map.insert owners name who)) ≡ true
@@ -96,7 +106,8 @@ claimed-table owners name who all named is = go (is_some (map.get owners name))
     go false = table-insert word_format owners name who all named is
 
 -- operations leave values
-stays-of : (v : ClaimsValue) (op : ClaimsOp) → claims.is_value v ≡ true → claims_is_op op ≡ true → claims.is_value (claims_apply v op) ≡ true
+stays-of : (v : ClaimsValue) (op : ClaimsOp) → claims.is_value v ≡ true → claims_is_op op ≡ true
+    → claims.is_value (claims_apply v op) ≡ true
 stays-of v (Note name word) value is =
     let tables = value-parts v value in
     let words = and_parts (is_word name) (is_word word) is in
@@ -107,30 +118,36 @@ stays-of v (Claim name who) value is =
     value-of (claims_apply v (Claim name who)) (claimed-table v.owners name who tables.0 words.0 words.1) tables.1
 stays-of v (Clear name) value is =
     let tables = value-parts v value in
-    value-of (claims_apply v (Clear name)) (table-remove word_format v.owners name tables.0) (table-remove words_format v.notes name tables.1)
+    value-of (claims_apply v (Clear name)) (table-remove word_format v.owners name tables.0)
+    (table-remove words_format v.notes name tables.1)
 stays-of v (Who name) value is = value
 
 -- an owner, or a dash, is printable
-owner-printable : (owners : Table (List ℕ)) (name : List ℕ) → is_table word_format owners ≡ true → is_printable (unwrap_or (map.get owners name) (codes "-")) ≡ true
+owner-printable : (owners : Table Bytes) (name : Bytes) → is_table word_format owners ≡ true
+    → is_printable (unwrap_or (map.get owners name) (codes "-")) ≡ true
 owner-printable owners name all = go (map.get owners name) refl
   where
-    go : (found : Option (List ℕ)) → map.get owners name ≡ found → is_printable (unwrap_or found (codes "-")) ≡ true
+    go : (found : Option Bytes) → map.get owners name ≡ found → is_printable (unwrap_or found (codes "-")) ≡ true
     go None is = refl
     go (Some owner) is = word-printable owner (table-get word_format owners name owner all is)
 
 -- each answer is printable
-printable_answer-of : (v : ClaimsValue) (op : ClaimsOp) → claims.is_value v ≡ true → is_printable (claims.read v op) ≡ true
+printable_answer-of : (v : ClaimsValue) (op : ClaimsOp) → claims.is_value v ≡ true
+    → is_printable (claims.read v op) ≡ true
 printable_answer-of v (Note name word) value = refl
 printable_answer-of v (Claim name who) value = refl
 printable_answer-of v (Clear name) value = refl
 printable_answer-of v (Who name) value =
     let tables = value-parts v value in
     let words = words_of-parts v.notes name tables.1 in
-    append-printable (unwrap_or (map.get v.owners name) (codes "-")) (32 ∷ words_text (words_of v.notes name)) (owner-printable v.owners name tables.0) (words_text-printable (words_of v.notes name) words.0)
+    append-printable (unwrap_or (map.get v.owners name) (codes "-")) (32 ∷ words_text (words_of v.notes name))
+    (owner-printable v.owners name tables.0) (words_text-printable (words_of v.notes name) words.0)
 
 -- values are spelled exactly, since tables are
 claims-exact : IsExactFormat claims_format
-claims-exact = renamed-exact of_tables tables_of (both (table_of word_format) (table_of words_format)) (λ v. refl) (λ tables. refl) (both-exact (table_of word_format) (table_of words_format) (table-exact word_format word-exact) (table-exact words_format words-exact))
+claims-exact = renamed-exact of_tables tables_of (both (table_of word_format) (table_of words_format)) (λ v. refl)
+    (λ tables. refl) (both-exact (table_of word_format) (table_of words_format) (table-exact word_format word-exact)
+    (table-exact words_format words-exact))
 
 -- notes commute with notes and claims, each operation has one short text, and each value one spelling
 pub claims_lawful : Lawful claims claims_kind

@@ -61,7 +61,8 @@ impl Claims {
     // Adds the owner's name, or a dash, behind `out`.
     fn put_owner(&self, name: &Word, out: &mut Text) -> Result<(), NoMemory>
         ensures ok { OnOk result (out.new ≡ out.old ++ unwrap_or (map.get self.now.owners name.now) (codes "-")) }
-        ensures printable { OnOk result (is_printable (unwrap_or (map.get self.now.owners name.now) (codes "-")) ≡ true) }
+        ensures printable { OnOk result (
+            is_printable (unwrap_or (map.get self.now.owners name.now) (codes "-")) ≡ true) }
     {
         match self.owners.get(name) {
             Some(owner) => put_word(owner, out),

@@ -3,6 +3,7 @@ use Rattle.std.specs.Prelude.{ℕ, ◌+◌, ◌%◌, ◌^◌, Bool, ◌&&◌, Li
 use Rattle.std.specs.Coded.{Coded, code_by, coded×, coded_list, coded_ℕ}
 use Rattle.std.specs.Fmt.{decimal}
 use Rattle.std.specs.FinMap as map
+use Rattle.lr_base.specs.Bytes.{Bytes}
 use Rattle.lr_base.specs.declared.lr_service.Kind.{Kind}
 use Rattle.lr_base.specs.declared.lr_service.Kind.TheVariants.{Query, Causal, Forced, Immediate}
 use Rattle.lr_base.specs.Meaning.{Meaning}
@@ -17,7 +18,7 @@ use Rattle.svc_mail.specs.declared.op.MailOp.TheVariants.{Send, Add, Delete, Rea
 pub record MailValue : Type 0 where
   pub last : ℕ
   pub users : Table ℕ
-  pub boxes : Table (List (List ℕ))
+  pub boxes : Table (List Bytes)
 
 -- sending is causal, adding a user is forced, deleting one is immediate, and reading asks
 abbrev pub mail_kind : MailOp → Kind
@@ -31,8 +32,12 @@ abbrev pub next_number : MailValue → ℕ
 next_number v = (v.last + 1) % 2 ^ 64
 
 -- an unknown user gets the next number, a known one keeps its own
-abbrev pub with_user : MailValue → List ℕ → Option ℕ → MailValue
-with_user v user None = record { last = next_number v; users = map.insert v.users user (next_number v); boxes = v.boxes }
+abbrev pub with_user : MailValue → Bytes → Option ℕ → MailValue
+with_user v user None = record {
+  last = next_number v;
+  users = map.insert v.users user (next_number v);
+  boxes = v.boxes;
+}
 with_user v user (Some number) = v
 
 -- a word comes among those of its box, a user gets a number, and deleting takes number and box away
@@ -43,12 +48,12 @@ mail_apply v (Delete user) = record { last = v.last; users = map.remove v.users 
 mail_apply v (Read user) = v
 
 -- a user's number in decimal, or a dash where there is none
-abbrev pub number_text : Option ℕ → List ℕ
+abbrev pub number_text : Option ℕ → Bytes
 number_text None = codes "-"
 number_text (Some number) = decimal number
 
 -- reading answers the user's number, and behind a space the words of its box
-abbrev pub mail_read : MailValue → MailOp → List ℕ
+abbrev pub mail_read : MailValue → MailOp → Bytes
 mail_read v (Send user word) = []
 mail_read v (Add user) = []
 mail_read v (Delete user) = []
@@ -62,27 +67,29 @@ mail_is_op (Delete user) = is_word user
 mail_is_op (Read user) = is_word user
 
 -- the operation as it is written
-abbrev pub mail_text : MailOp → List ℕ
+abbrev pub mail_text : MailOp → Bytes
 mail_text (Send user word) = codes "send " ++ (user ++ (codes " " ++ word))
 mail_text (Add user) = codes "add " ++ user
 mail_text (Delete user) = codes "delete " ++ user
 mail_text (Read user) = codes "read " ++ user
 
 -- the number and the two tables of a value
-abbrev pub parts_of : MailValue → ℕ × (Table ℕ × Table (List (List ℕ)))
+abbrev pub parts_of : MailValue → ℕ × (Table ℕ × Table (List Bytes))
 parts_of v = (v.last, (v.users, v.boxes))
 
 -- the value of a number and two tables
-abbrev pub of_parts : ℕ × (Table ℕ × Table (List (List ℕ))) → MailValue
+abbrev pub of_parts : ℕ × (Table ℕ × Table (List Bytes)) → MailValue
 of_parts parts = record { last = parts.0; users = parts.1.0; boxes = parts.1.1 }
 
 -- the proofs' code of a word
-abbrev word_code : Coded (List ℕ)
+abbrev word_code : Coded Bytes
 word_code = coded_list coded_ℕ
 
 -- the proofs' code of a value, by which they tell it from others
 abbrev pub mail_code : Coded MailValue
-mail_code = code_by (ℕ × (Table ℕ × Table (List (List ℕ)))) (coded× coded_ℕ (coded× (map.code word_code coded_ℕ) (map.code word_code (coded_list word_code)))) parts_of of_parts (λ v. refl)
+mail_code = code_by (ℕ × (Table ℕ × Table (List Bytes)))
+    (coded× coded_ℕ (coded× (map.code word_code coded_ℕ) (map.code word_code (coded_list word_code)))) parts_of
+    of_parts (λ v. refl)
 
 -- a value stands in bytes as its last number, its users and then its boxes
 abbrev pub mail_format : Format MailValue

@@ -1,8 +1,9 @@
 -- The tally: counters by name, to which operations add modulo 2^64.
-use Rattle.std.specs.Prelude.{ℕ, ◌+◌, ◌%◌, ◌^◌, Bool, ◌&&◌, nat_lt, List, [], ◌++◌, unwrap_or, codes}
+use Rattle.std.specs.Prelude.{ℕ, ◌+◌, ◌%◌, ◌^◌, Bool, ◌&&◌, nat_lt, [], ◌++◌, unwrap_or, codes}
 use Rattle.std.specs.Coded.{Coded, coded_ℕ, coded_list}
 use Rattle.std.specs.Fmt.{decimal}
 use Rattle.std.specs.FinMap as map
+use Rattle.lr_base.specs.Bytes.{Bytes}
 use Rattle.lr_base.specs.declared.lr_service.Kind.{Kind}
 use Rattle.lr_base.specs.declared.lr_service.Kind.TheVariants.{Query, Causal}
 use Rattle.svc_tally.specs.declared.op.TallyOp.{TallyOp}
@@ -18,7 +19,7 @@ abbrev pub Counts : Type 0
 Counts = Table ℕ
 
 -- the counter of this name, or 0 where there is none
-abbrev pub count_of : Counts → List ℕ → ℕ
+abbrev pub count_of : Counts → Bytes → ℕ
 count_of counts name = unwrap_or (map.get counts name) 0
 
 -- adding is causal, reading is a query
@@ -32,7 +33,7 @@ tally_apply counts (Add name amount) = map.insert counts name ((count_of counts 
 tally_apply counts (Read name) = counts
 
 -- reading answers the counter in decimal
-abbrev pub tally_read : Counts → TallyOp → List ℕ
+abbrev pub tally_read : Counts → TallyOp → Bytes
 tally_read counts (Add name amount) = []
 tally_read counts (Read name) = decimal (count_of counts name)
 
@@ -42,7 +43,7 @@ tally_is_op (Add name amount) = is_word name && nat_lt amount (2 ^ 64)
 tally_is_op (Read name) = is_word name
 
 -- the operation as it is written
-abbrev pub tally_text : TallyOp → List ℕ
+abbrev pub tally_text : TallyOp → Bytes
 tally_text (Add name amount) = codes "add " ++ (name ++ (codes " " ++ decimal amount))
 tally_text (Read name) = codes "read " ++ name
 

@@ -1,10 +1,12 @@
 -- The tally keeps the law of services.
-use Rattle.std.proofs.Common.{◌≡◌, ◌<◌, ◌≤◌, ◌+◌, ◌%◌, ◌^◌, ℕ, true, false, nat_lt, List, [], ◌∷◌, ◌++◌, length, get_or, refl, sym, ◌∙◌, ap, arith, length-append}
-use Rattle.std.specs.Prelude.{Option, Some, unwrap_or}
+use Rattle.std.proofs.Common.{◌≡◌, ◌<◌, ◌≤◌, ◌+◌, ◌%◌, ◌^◌, ℕ, true, false, nat_lt, ◌∷◌, ◌++◌, length, get_or, refl}
+use Rattle.std.proofs.Common.{sym, ◌∙◌, ap, arith, length-append}
+use Rattle.std.specs.Prelude.{unwrap_or}
 use Rattle.std.specs.Fmt.{decimal}
 use Rattle.std.proofs.Math.Nat.{mod-add-mod, mod-lt}
 use Rattle.std.proofs.lemmas.Bool.{and_parts, ltb-true, lt-ltb}
 use Rattle.std.proofs.lemmas.Fmt.{decimal_injective}
+use Rattle.lr_base.specs.Bytes.{Bytes}
 use Rattle.lr_base.specs.Kinds.{IsUpdate}
 use Rattle.lr_base.specs.Meaning.{Lawful, is_printable}
 use Rattle.lr_words.specs.Changes.{changes-commute}
@@ -15,7 +17,8 @@ use Rattle.lr_words.specs.TableValues.{table-empty, table-insert}
 use Rattle.lr_words.specs.TextLaws.{append-printable, decimal-printable, decimal-short, word-printable, word-short}
 use Rattle.lr_words.specs.Word.{is_word}
 use Rattle.lr_words.specs.WordTexts.{same-front, word-no_space}
-use Rattle.svc_tally.specs.Tally.{Counts, count_of, tally, tally_apply, tally_format, tally_is_op, tally_kind, tally_text}
+use Rattle.svc_tally.specs.Tally.{Counts, count_of, tally, tally_apply, tally_format, tally_is_op, tally_kind}
+use Rattle.svc_tally.specs.Tally.{tally_text}
 use Rattle.svc_tally.specs.declared.op.TallyOp.{TallyOp}
 use Rattle.svc_tally.specs.declared.op.TallyOp.TheVariants.{Add, Read}
 
@@ -26,14 +29,17 @@ sums n j k =
     mod-add-mod (n + j) (2 ^ 64) k ∙ ap (λ m. m % 2 ^ 64) swapped ∙ sym (mod-add-mod (n + k) (2 ^ 64) j)
 
 -- two updates of the tally do
-commutes : (v : Counts) (a b : TallyOp) → IsUpdate (tally_kind a) → IsUpdate (tally_kind b) → tally_apply (tally_apply v a) b ≡ tally_apply (tally_apply v b) a
+commutes : (v : Counts) (a b : TallyOp) → IsUpdate (tally_kind a) → IsUpdate (tally_kind b)
+    → tally_apply (tally_apply v a) b ≡ tally_apply (tally_apply v b) a
 commutes v (Add m j) (Add n k) first second =
-    changes-commute v m n (λ count. (unwrap_or count 0 + j) % 2 ^ 64) (λ count. (unwrap_or count 0 + k) % 2 ^ 64) (λ count. sums (unwrap_or count 0) j k)
+    changes-commute v m n (λ count. (unwrap_or count 0 + j) % 2 ^ 64) (λ count. (unwrap_or count 0 + k) % 2 ^ 64)
+        (λ count. sums (unwrap_or count 0) j k)
 commutes v (Read m) b first second = let no : true ≡ false = first in cc
 commutes v (Add m j) (Read n) first second = let no : true ≡ false = second in cc
 
 -- an amount that passes the test is below 2^64
-amount-fits : (name : List ℕ) (amount : ℕ) → tally_is_op (Add name amount) ≡ true → (is_word name ≡ true) × (amount < 2 ^ 64)
+amount-fits : (name : Bytes) (amount : ℕ) → tally_is_op (Add name amount) ≡ true
+    → (is_word name ≡ true) × (amount < 2 ^ 64)
 amount-fits name amount is =
     let parts = and_parts (is_word name) (nat_lt amount (2 ^ 64)) is in
     (parts.0, ltb-true amount (2 ^ 64) parts.1)
@@ -74,7 +80,9 @@ short_text-of (Read name) is =
 
 -- an operation's text is printable
 printable_text-of : (op : TallyOp) → tally_is_op op ≡ true → is_printable (tally_text op) ≡ true
-printable_text-of (Add name amount) is = append-printable name (32 ∷ decimal amount) (word-printable name (amount-fits name amount is).0) (decimal-printable amount)
+printable_text-of (Add name amount) is =
+    append-printable name (32 ∷ decimal amount) (word-printable name (amount-fits name amount is).0)
+    (decimal-printable amount)
 printable_text-of (Read name) is = word-printable name is
 
 -- and so is each answer
@@ -83,9 +91,11 @@ printable_answer-of v (Add name amount) = refl
 printable_answer-of v (Read name) = decimal-printable (count_of v name)
 
 -- counters stay below 2^64
-stays-of : (v : Counts) (op : TallyOp) → tally_format.is_value v ≡ true → tally_is_op op ≡ true → tally_format.is_value (tally_apply v op) ≡ true
+stays-of : (v : Counts) (op : TallyOp) → tally_format.is_value v ≡ true → tally_is_op op ≡ true
+    → tally_format.is_value (tally_apply v op) ≡ true
 stays-of v (Add name amount) value is =
-    table-insert number_format v name ((count_of v name + amount) % 2 ^ 64) value (amount-fits name amount is).0 (lt-ltb _ (2 ^ 64) (mod-lt (count_of v name + amount) (omega arith)))
+    table-insert number_format v name ((count_of v name + amount) % 2 ^ 64) value (amount-fits name amount is).0
+        (lt-ltb _ (2 ^ 64) (mod-lt (count_of v name + amount) (omega arith)))
 stays-of v (Read name) value is = value
 
 -- additions commute, each operation has one short text, and counters one spelling

@@ -43,8 +43,7 @@ impl Tally {
         ensures ok { OnOk result (self.new ≡ tally_apply self.old (operation.Add name.now amount)) }
         ensures err { OnErr result (self.new ≡ self.old) }
     {
-        let count = self.count(name).wrapping_add(amount);
-        self.counts.insert(name.copy(), count)
+        self.counts.add(name, amount)
     }
 
     // The counters that the bytes begin with, and the bytes behind them.

@@ -1,7 +1,8 @@
 -- The order of spots, and logs in this order.
-use Rattle.std.proofs.Common.{◌≡◌, suc, ◌<◌, ◌≤◌, ◌≢◌, Bool, true, false, cond, ◌&&◌, ◌⊎◌, ◌==◌, inl, inr, nat_lt, List, [], ◌∷◌, refl, sym, ap, ◌∙◌, arith, eqb-true, eq-eqb, le-leb, leb-true, true≢false}
+use Rattle.std.proofs.Common.{◌≡◌, suc, ◌<◌, ◌≤◌, ◌≢◌, Bool, true, false, cond, ◌&&◌, ◌⊎◌, ◌==◌, inl, inr, nat_lt, List, refl, sym, ap, ◌∙◌, arith, eqb-true, eq-eqb, le-leb, leb-true, true≢false}
 use Rattle.lr_base.specs.Orders.{IsAmong}
-use Rattle.lr_base.specs.Rules.{is_before, put_update}
+use Rattle.lr_base.specs.InsertionLaws.{among-inserted, ascends-inserted, each-inserted}
+use Rattle.lr_base.specs.Rules.{is_before, insert_update}
 use Rattle.lr_base.specs.declared.messages.LogUpdate.{LogUpdate}
 use Rattle.lr_base.specs.declared.names.Spot.{Spot}
 use Rattle.lr_graph.specs.Closed.{Each}
@@ -66,35 +67,20 @@ before-total a b apart out = precedes-before b a (by_place (le-or-lt a.place b.p
 -- ---- a log with one update more
 
 module _ {Op : Type 0} (u : LogUpdate Op) where
-  pub each-put : (P : LogUpdate Op → Type 0) (us : List (LogUpdate Op)) → P u → Each P us → Each P (put_update u us)
-  each-put P [] own all = (own, tt)
-  each-put P (x ∷ us) own all = at_head (is_before u.spot x.spot) (each-put P us own all.1)
-    where
-      at_head : (t : Bool) → Each P (put_update u us) → Each P (cond t (u ∷ x ∷ us) (x ∷ put_update u us))
-      at_head true rest = (own, all)
-      at_head false rest = (all.0, rest)
+  pub each-put : (P : LogUpdate Op → Type 0) (us : List (LogUpdate Op)) → P u → Each P us → Each P (insert_update u us)
+  each-put P us own all = each-inserted (λ x y. false) (λ a b. is_before a.spot b.spot) u P us own all
 
-  pub among-put : (us : List (LogUpdate Op)) → IsAmong u (put_update u us)
-  among-put [] = inl refl
-  among-put (x ∷ us) = at_head (is_before u.spot x.spot) (among-put us)
-    where
-      at_head : (t : Bool) → IsAmong u (put_update u us) → IsAmong u (cond t (u ∷ x ∷ us) (x ∷ put_update u us))
-      at_head true rest = inl refl
-      at_head false rest = inr rest
+  pub among-put : (us : List (LogUpdate Op)) → IsAmong u (insert_update u us)
+  among-put us = among-inserted (λ x y. false) (λ a b. is_before a.spot b.spot) u (λ x no. absurd (true≢false (sym no))) u us (inl refl)
 
-  pub among-put_old : (us : List (LogUpdate Op)) (y : LogUpdate Op) → IsAmong y us → IsAmong y (put_update u us)
-  among-put_old [] y member = absurd member
-  among-put_old (x ∷ us) y member = at_head (is_before u.spot x.spot) (among-put_old us y) member
-    where
-      at_head : (t : Bool) → (IsAmong y us → IsAmong y (put_update u us)) → IsAmong y (x ∷ us) → IsAmong y (cond t (u ∷ x ∷ us) (x ∷ put_update u us))
-      at_head true rest member = inr member
-      at_head false rest (inl e) = inl e
-      at_head false rest (inr member) = inr (rest member)
+  pub among-put_old : (us : List (LogUpdate Op)) (y : LogUpdate Op) → IsAmong y us → IsAmong y (insert_update u us)
+  among-put_old us y member = among-inserted (λ x y. false) (λ a b. is_before a.spot b.spot) u (λ x no. absurd (true≢false (sym no))) y us (inr member)
 
-  pub ascending-put : (us : List (LogUpdate Op)) → IsAscending us → Each (λ x. u.spot ≡ x.spot → ⊥) us → IsAscending (put_update u us)
-  ascending-put [] h apart = (tt, tt)
-  ascending-put (x ∷ us) h apart = at_head (is_before u.spot x.spot) refl (ascending-put us h.1 apart.1)
+  pub ascending-put : (us : List (LogUpdate Op)) → IsAscending us → Each (λ x. u.spot ≡ x.spot → ⊥) us → IsAscending (insert_update u us)
+  ascending-put us h apart =
+      ascends-inserted (λ x y. false) (λ a b. is_before a.spot b.spot) u (λ a b. is_before a.spot b.spot) (λ x y. before-trans u.spot x.spot y.spot) us
+      (each-map _ _ us (λ x out t no e. by_test x out t e) apart) h
     where
-      at_head : (t : Bool) → is_before u.spot x.spot ≡ t → IsAscending (put_update u us) → IsAscending (cond t (u ∷ x ∷ us) (x ∷ put_update u us))
-      at_head true e rest = ((e, each-map _ _ us (λ y k. before-trans u.spot x.spot y.spot e k) h.0), h)
-      at_head false e rest = (each-put (λ y. is_before x.spot y.spot ≡ true) us (before-total u.spot x.spot apart.0 e) h.0, rest)
+      by_test : (x : LogUpdate Op) → (u.spot ≡ x.spot → ⊥) → (t : Bool) → is_before u.spot x.spot ≡ t → cond t (is_before u.spot x.spot) (is_before x.spot u.spot) ≡ true
+      by_test x out true e = e
+      by_test x out false e = before-total u.spot x.spot out e

@@ -1,6 +1,7 @@
 -- How a replica's state and its part of the graph belong together.
-use Rattle.std.proofs.Common.{◌≡◌, ◌<◌, true, false, List, [], ◌∷◌, Some, is_some}
+use Rattle.std.proofs.Common.{◌≡◌, ◌<◌, true, false, List, Some, is_some}
 use Rattle.std.specs.Option.{option_map}
+use Rattle.lr_base.specs.Insertion.{Ascends}
 use Rattle.lr_base.specs.Kinds.{IsUpdate, are_ordered}
 use Rattle.lr_base.specs.Meaning.{Meaning}
 use Rattle.lr_base.specs.Orders.{IsAmong}
@@ -43,8 +44,7 @@ HasUpdateAt {Op} spot us = (u : LogUpdate Op) × IsAmong u us × (u.spot ≡ spo
 
 -- the updates come in the order of their spots, each spot once
 abbrev pub IsAscending : {Op : Type 0} → List (LogUpdate Op) → Type 0
-IsAscending [] = Unit {0}
-IsAscending (u ∷ us) = Each (λ x. is_before u.spot x.spot ≡ true) us × IsAscending us
+IsAscending us = Ascends (λ a b. is_before a.spot b.spot) us
 
 -- the updates are those of the acceptances of the set g, in order
 pub record IsLogOf {Op : Type 0} (l : List (Acceptance Op)) (g : SpotSet) (us : List (LogUpdate Op)) : Type 0 where

@@ -2,7 +2,7 @@
 use Rattle.std.proofs.Common.{◌≡◌, ◌≢◌, ℕ, zero, suc, ◌+◌, ◌<◌, ◌≤◌, true, false, not, ◌&&◌, ◌||◌, ◌⊎◌, inl, inr, nat_lt, nat_le, List, ◌∷◌, refl, sym, ap, ◌∙◌, subst, arith, true≢false, le-leb, leb-true}
 use Rattle.lr_base.specs.Meaning.{Meaning}
 use Rattle.lr_base.specs.Orders.{IsAmong}
-use Rattle.lr_base.specs.Rules.{CausalState, accepted, put_update, stamp_of, update_of_call}
+use Rattle.lr_base.specs.Rules.{CausalState, accepted, insert_update, stamp_of, update_of_call}
 use Rattle.lr_base.specs.StampLaws.{part-join, part-set_part, part-set_part_other, parts-stamp_le}
 use Rattle.lr_base.specs.Stamps.{part, set_part, stamp_le}
 use Rattle.lr_base.specs.declared.messages.Call.{Call}
@@ -198,7 +198,7 @@ module _ {Value Op : Type 0} (m : Meaning Value Op) (config : Config) (l : List 
     apart-old : Each (λ y. u.spot ≡ y.spot → ⊥) state.updates
     apart-old = each-map _ _ state.updates (λ y h same. next-fresh (h.0, h.1.among, sym (same ∙ h.1.spot))) ok.log.each
 
-    new-log : IsLogOf (a ∷ l) (g ∪ only next) (put_update u state.updates)
+    new-log : IsLogOf (a ∷ l) (g ∪ only next) (insert_update u state.updates)
     new-log = record {
       each = each-put u (IsUpdateOf (a ∷ l) (g ∪ only next)) state.updates (a, new-stands, or-right (g next) _ (same_spot-self next))
           (each-map _ _ state.updates (λ y h. (h.0, stands-more l a next-fresh y h.0 h.1, or-left (g h.0.spot) _ h.2)) ok.log.each);
@@ -213,7 +213,7 @@ module _ {Value Op : Type 0} (m : Meaning Value Op) (config : Config) (l : List 
         was b member (inl e) = e
         was b member (inr e) = absurd (next-fresh (b, member, same_spot-is b.spot next e))
 
-        old : (b : Acceptance Op) → HasUpdateAt b.spot state.updates → HasUpdateAt b.spot (put_update u state.updates)
+        old : (b : Acceptance Op) → HasUpdateAt b.spot state.updates → HasUpdateAt b.spot (insert_update u state.updates)
         old b h = (h.0, among-put_old u state.updates h.0 h.1, h.2)
 
     too_high : stamp_le (stamp_of u) state.val_ts ≡ true → ⊥

@@ -2,7 +2,7 @@
 use Rattle.std.proofs.Common.{◌≡◌, ◌≢◌, ℕ, ◌+◌, ◌<◌, Bool, true, false, cond, not, ◌&&◌, ◌==◌, ◌⊎◌, inl, inr, find, List, [], ◌∷◌, ◌++◌, length, Option, Some, None, refl, sym, ap, ◌∙◌, subst, arith, true≢false, eqb-true}
 use Rattle.std.proofs.lemmas.List.{append-nil}
 use Rattle.lr_base.specs.Meaning.{Meaning}
-use Rattle.lr_base.specs.Rules.{CausalState, gossip_of, gossip_taken, new_acks, new_count, put_acks}
+use Rattle.lr_base.specs.Rules.{CausalState, gossip_of, gossip_taken, new_acks, new_count, insert_acks}
 use Rattle.lr_base.specs.StampLaws.{length-join}
 use Rattle.lr_base.specs.Stamps.{join}
 use Rattle.lr_base.specs.Steps.{gossip_given}
@@ -117,7 +117,7 @@ module _ {Value Op : Type 0} (m : Meaning Value Op) (config : Config) (issued : 
     }
       where
         acks_none : after_it.acks ≡ []
-        acks_none = λ k. put_acks (new_acks state.rep_ts (same.acks k)) (ok.still.acks k)
+        acks_none = λ k. insert_acks (new_acks state.rep_ts (same.acks k)) (ok.still.acks k)
 
     count_is : size_of w.accepted (λ s. names s && not (w.received i s)) ≡ new_count state gossip
     count_is =

@@ -2,7 +2,7 @@
 use Rattle.std.proofs.Common.{◌≡◌, ℕ, suc, ◌<◌, ◌≤◌, Bool, true, false, not, ◌&&◌, ◌||◌, ◌⊎◌, inl, inr, nat_lt, nat_le, List, [], ◌∷◌, length, refl, sym, ap, ◌∙◌, subst, arith, true≢false, le-leb, leb-true}
 use Rattle.lr_base.specs.Meaning.{Meaning}
 use Rattle.lr_base.specs.Orders.{IsAmong}
-use Rattle.lr_base.specs.Rules.{CausalState, gossip_taken, is_new, new_updates, put_update, put_updates, stamp_of}
+use Rattle.lr_base.specs.Rules.{CausalState, gossip_taken, is_new, new_updates, insert_update, insert_updates, stamp_of}
 use Rattle.lr_base.specs.StampLaws.{part-join, part-set_part, parts-stamp_le}
 use Rattle.lr_base.specs.Stamps.{join, part, stamp_le}
 use Rattle.lr_base.specs.declared.messages.Gossip.{Gossip}
@@ -28,29 +28,29 @@ use Rattle.lr_graph.proofs.Related.Ties.{HasUpdateAt, IsAscending, IsLogOf, IsPe
 -- ---- a log with several updates more
 
 module _ {Op : Type 0} where
-  pub each-puts : (P : LogUpdate Op → Type 0) (more us : List (LogUpdate Op)) → Each P more → Each P us → Each P (put_updates more us)
+  pub each-puts : (P : LogUpdate Op → Type 0) (more us : List (LogUpdate Op)) → Each P more → Each P us → Each P (insert_updates more us)
   each-puts P [] us h k = k
-  each-puts P (u ∷ more) us h k = each-puts P more (put_update u us) h.1 (each-put u P us h.0 k)
+  each-puts P (u ∷ more) us h k = each-puts P more (insert_update u us) h.1 (each-put u P us h.0 k)
 
-  pub among-puts_old : (more us : List (LogUpdate Op)) (y : LogUpdate Op) → IsAmong y us → IsAmong y (put_updates more us)
+  pub among-puts_old : (more us : List (LogUpdate Op)) (y : LogUpdate Op) → IsAmong y us → IsAmong y (insert_updates more us)
   among-puts_old [] us y member = member
-  among-puts_old (u ∷ more) us y member = among-puts_old more (put_update u us) y (among-put_old u us y member)
+  among-puts_old (u ∷ more) us y member = among-puts_old more (insert_update u us) y (among-put_old u us y member)
 
-  pub among-puts_new : (more us : List (LogUpdate Op)) (y : LogUpdate Op) → IsAmong y more → IsAmong y (put_updates more us)
+  pub among-puts_new : (more us : List (LogUpdate Op)) (y : LogUpdate Op) → IsAmong y more → IsAmong y (insert_updates more us)
   among-puts_new [] us y member = absurd member
-  among-puts_new (u ∷ more) us y (inl e) = among-puts_old more (put_update u us) y (subst (λ (z : LogUpdate Op). IsAmong z (put_update u us)) (sym e) (among-put u us))
-  among-puts_new (u ∷ more) us y (inr member) = among-puts_new more (put_update u us) y member
+  among-puts_new (u ∷ more) us y (inl e) = among-puts_old more (insert_update u us) y (subst (λ (z : LogUpdate Op). IsAmong z (insert_update u us)) (sym e) (among-put u us))
+  among-puts_new (u ∷ more) us y (inr member) = among-puts_new more (insert_update u us) y member
 
   -- the updates are at other spots than those of the log, and in order
-  pub ascending-puts : (more us : List (LogUpdate Op)) → IsAscending more → IsAscending us → Each (λ x. Each (λ y. x.spot ≡ y.spot → ⊥) us) more → IsAscending (put_updates more us)
+  pub ascending-puts : (more us : List (LogUpdate Op)) → IsAscending more → IsAscending us → Each (λ x. Each (λ y. x.spot ≡ y.spot → ⊥) us) more → IsAscending (insert_updates more us)
   ascending-puts [] us f g apart = g
   ascending-puts (u ∷ more) us f g apart =
-      ascending-puts more (put_update u us) f.1 (ascending-put u us g apart.0)
+      ascending-puts more (insert_update u us) f.1 (ascending-put u us g apart.0)
       (each-from _ more (λ x member. each-put u (λ y. x.spot ≡ y.spot → ⊥) us (λ same. before-apart u.spot x.spot (each-at _ x more f.0 member) (sym same)) (each-at _ x more apart.1 member)))
 
 module _ {Op : Type 0} (l : List (Acceptance Op)) (g h : SpotSet) (us more : List (LogUpdate Op)) (log : IsLogOf l g us) (others : IsLogOf l h more) (disjoint : (s : Spot) → h s ≡ true → g s ≡ true → ⊥) where
   -- two logs of two sets make one
-  pub log-both : IsLogOf l (g ∪ h) (put_updates more us)
+  pub log-both : IsLogOf l (g ∪ h) (insert_updates more us)
   log-both = record {
     each = each-puts (IsUpdateOf l (g ∪ h)) more us (each-map _ _ more (λ u k. (k.0, k.1, or-right (g k.0.spot) _ k.2)) others.each) (each-map _ _ us (λ u k. (k.0, k.1, or-left (g k.0.spot) _ k.2)) log.each);
     all = each-from _ l (λ a member e. by_part a member (or-cases (g a.spot) _ e));
@@ -58,7 +58,7 @@ module _ {Op : Type 0} (l : List (Acceptance Op)) (g h : SpotSet) (us more : Lis
         (each-map _ _ more (λ x k. each-map _ _ us (λ y j same. disjoint k.0.spot k.2 (ap g (sym k.1.spot ∙ same ∙ j.1.spot) ∙ j.2)) log.each) others.each);
   }
     where
-      by_part : (a : Acceptance Op) → IsAmong a l → (g a.spot ≡ true) ⊎ (h a.spot ≡ true) → HasUpdateAt a.spot (put_updates more us)
+      by_part : (a : Acceptance Op) → IsAmong a l → (g a.spot ≡ true) ⊎ (h a.spot ≡ true) → HasUpdateAt a.spot (insert_updates more us)
       by_part a member (inl e) = let u = each-at _ a l log.all member e in (u.0, among-puts_old more us u.0 u.1, u.2)
       by_part a member (inr e) = let u = each-at _ a l others.all member e in (u.0, among-puts_new more us u.0 u.1, u.2)
 

@@ -1,12 +1,13 @@
 -- What a state line lists of a replica, in the graph and by the rules.
 use Rattle.std.proofs.Common.{◌≡◌, suc, Bool, true, false, cond, ◌⊎◌, inl, inr, List, [], ◌∷◌, length, map, refl, sym, ap, ◌∙◌, subst, true≢false}
 use Rattle.lr_base.specs.Orders.{IsAmong}
+use Rattle.lr_base.specs.InsertionLaws.{among-inserted, ascends-inserted, each-inserted, length-inserted}
 use Rattle.lr_base.specs.Rules.{is_before}
 use Rattle.lr_base.specs.declared.messages.LogUpdate.{LogUpdate}
 use Rattle.lr_base.specs.declared.names.Spot.{Spot}
 use Rattle.lr_graph.specs.Closed.{Each, HasApartSpots, IsSound}
 use Rattle.lr_graph.specs.Graph.{Acceptance, size_of, spots_of}
-use Rattle.lr_graph.specs.Sets.{SpotSet, put_spot, same_spot}
+use Rattle.lr_graph.specs.Sets.{SpotSet, insert_spot, same_spot}
 use Rattle.lr_graph.proofs.Lists.Ascents.{Ascends, same-ascents}
 use Rattle.lr_graph.proofs.Lists.Members.{each-at, each-map}
 use Rattle.lr_graph.proofs.Logs.Orders.{before-apart, before-total, before-trans}
@@ -16,41 +17,19 @@ use Rattle.lr_graph.proofs.Related.Ties.{HasUpdateAt, IsAscending, IsLogOf}
 -- ---- the spots of a log
 
 module _ (spot : Spot) where
-  each-put_spot : (P : Spot → Type 0) (spots : List Spot) → P spot → Each P spots → Each P (put_spot spot spots)
-  each-put_spot P [] own all = (own, tt)
-  each-put_spot P (x ∷ spots) own all = at_head (is_before spot x) (each-put_spot P spots own all.1)
-    where
-      at_head : (t : Bool) → Each P (put_spot spot spots) → Each P (cond t (spot ∷ x ∷ spots) (x ∷ put_spot spot spots))
-      at_head true rest = (own, all)
-      at_head false rest = (all.0, rest)
+  each-insert_spot : (P : Spot → Type 0) (spots : List Spot) → P spot → Each P spots → Each P (insert_spot spot spots)
+  each-insert_spot P spots own all = each-inserted (λ x y. false) is_before spot P spots own all
 
-  among-put_spot : (y : Spot) (spots : List Spot) → (y ≡ spot) ⊎ IsAmong y spots → IsAmong y (put_spot spot spots)
-  among-put_spot y [] (inl e) = inl e
-  among-put_spot y [] (inr member) = absurd member
-  among-put_spot y (x ∷ spots) where_ = at_head (is_before spot x) where_ (among-put_spot y spots)
-    where
-      at_head : (t : Bool) → (y ≡ spot) ⊎ IsAmong y (x ∷ spots) → ((y ≡ spot) ⊎ IsAmong y spots → IsAmong y (put_spot spot spots)) → IsAmong y (cond t (spot ∷ x ∷ spots) (x ∷ put_spot spot spots))
-      at_head true (inl e) rest = inl e
-      at_head true (inr member) rest = inr member
-      at_head false (inl e) rest = inr (rest (inl e))
-      at_head false (inr (inl e)) rest = inl e
-      at_head false (inr (inr member)) rest = inr (rest (inr member))
+  among-insert_spot : (y : Spot) (spots : List Spot) → (y ≡ spot) ⊎ IsAmong y spots → IsAmong y (insert_spot spot spots)
+  among-insert_spot y spots either = among-inserted (λ x y. false) is_before spot (λ x no. absurd (true≢false (sym no))) y spots either
 
-  ascends-put_spot : (spots : List Spot) → Each (λ x. spot ≡ x → ⊥) spots → Ascends is_before spots → Ascends is_before (put_spot spot spots)
-  ascends-put_spot [] apart h = (tt, tt)
-  ascends-put_spot (x ∷ spots) apart h = at_head (is_before spot x) refl (ascends-put_spot spots apart.1 h.1)
+  ascends-insert_spot : (spots : List Spot) → Each (λ x. spot ≡ x → ⊥) spots → Ascends is_before spots → Ascends is_before (insert_spot spot spots)
+  ascends-insert_spot spots apart h =
+      ascends-inserted (λ x y. false) is_before spot is_before (before-trans spot) spots (each-map _ _ spots (λ x out t no e. by_test x out t e) apart) h
     where
-      at_head : (t : Bool) → is_before spot x ≡ t → Ascends is_before (put_spot spot spots) → Ascends is_before (cond t (spot ∷ x ∷ spots) (x ∷ put_spot spot spots))
-      at_head true e rest = ((e, each-map _ _ spots (λ y k. before-trans spot x y e k) h.0), h)
-      at_head false e rest = (each-put_spot (λ y. is_before x y ≡ true) spots (before-total spot x apart.0 e) h.0, rest)
-
-  length-put_spot : (spots : List Spot) → length (put_spot spot spots) ≡ suc (length spots)
-  length-put_spot [] = refl
-  length-put_spot (x ∷ spots) = at_head (is_before spot x) (length-put_spot spots)
-    where
-      at_head : (t : Bool) → length (put_spot spot spots) ≡ suc (length spots) → length (cond t (spot ∷ x ∷ spots) (x ∷ put_spot spot spots)) ≡ suc (suc (length spots))
-      at_head true rest = refl
-      at_head false rest = ap suc rest
+      by_test : (x : Spot) → (spot ≡ x → ⊥) → (t : Bool) → is_before spot x ≡ t → cond t (is_before spot x) (is_before x spot) ≡ true
+      by_test x out true e = e
+      by_test x out false e = before-total spot x out e
 
 module _ {Op : Type 0} where
   -- each listed spot is that of an acceptance of the set
@@ -58,37 +37,37 @@ module _ {Op : Type 0} where
   each-spots_of P [] g h = tt
   each-spots_of P (a ∷ l) g h = at_head (g a.spot) refl (each-spots_of P l g h.1)
     where
-      at_head : (t : Bool) → g a.spot ≡ t → Each P (spots_of l g) → Each P (cond t (put_spot a.spot (spots_of l g)) (spots_of l g))
-      at_head true e rest = each-put_spot a.spot P (spots_of l g) (h.0 e) rest
+      at_head : (t : Bool) → g a.spot ≡ t → Each P (spots_of l g) → Each P (cond t (insert_spot a.spot (spots_of l g)) (spots_of l g))
+      at_head true e rest = each-insert_spot a.spot P (spots_of l g) (h.0 e) rest
       at_head false e rest = rest
 
   among-spots_of : (l : List (Acceptance Op)) (g : SpotSet) (a : Acceptance Op) → IsAmong a l → g a.spot ≡ true → IsAmong a.spot (spots_of l g)
   among-spots_of [] g a member here = absurd member
   among-spots_of (b ∷ l) g a (inl e) here = at_head (g b.spot) (ap (λ (c : Acceptance Op). g c.spot) (sym e) ∙ here)
     where
-      at_head : (t : Bool) → t ≡ true → IsAmong a.spot (cond t (put_spot b.spot (spots_of l g)) (spots_of l g))
-      at_head true q = among-put_spot b.spot a.spot (spots_of l g) (inl (ap (λ (c : Acceptance Op). c.spot) e))
+      at_head : (t : Bool) → t ≡ true → IsAmong a.spot (cond t (insert_spot b.spot (spots_of l g)) (spots_of l g))
+      at_head true q = among-insert_spot b.spot a.spot (spots_of l g) (inl (ap (λ (c : Acceptance Op). c.spot) e))
       at_head false q = absurd (true≢false (sym q))
   among-spots_of (b ∷ l) g a (inr member) here = at_head (g b.spot) (among-spots_of l g a member here)
     where
-      at_head : (t : Bool) → IsAmong a.spot (spots_of l g) → IsAmong a.spot (cond t (put_spot b.spot (spots_of l g)) (spots_of l g))
-      at_head true rest = among-put_spot b.spot a.spot (spots_of l g) (inr rest)
+      at_head : (t : Bool) → IsAmong a.spot (spots_of l g) → IsAmong a.spot (cond t (insert_spot b.spot (spots_of l g)) (spots_of l g))
+      at_head true rest = among-insert_spot b.spot a.spot (spots_of l g) (inr rest)
       at_head false rest = rest
 
   ascends-spots_of : (l : List (Acceptance Op)) (g : SpotSet) → HasApartSpots l → Ascends is_before (spots_of l g)
   ascends-spots_of [] g apart = tt
   ascends-spots_of (a ∷ l) g apart = at_head (g a.spot) (ascends-spots_of l g apart.1)
     where
-      at_head : (t : Bool) → Ascends is_before (spots_of l g) → Ascends is_before (cond t (put_spot a.spot (spots_of l g)) (spots_of l g))
-      at_head true rest = ascends-put_spot a.spot (spots_of l g) (each-spots_of (λ s. a.spot ≡ s → ⊥) l g (each-map _ _ l (λ b h here same. true≢false (sym (ap (λ s. same_spot s a.spot) (sym same) ∙ same_spot-self a.spot) ∙ h)) apart.0)) rest
+      at_head : (t : Bool) → Ascends is_before (spots_of l g) → Ascends is_before (cond t (insert_spot a.spot (spots_of l g)) (spots_of l g))
+      at_head true rest = ascends-insert_spot a.spot (spots_of l g) (each-spots_of (λ s. a.spot ≡ s → ⊥) l g (each-map _ _ l (λ b h here same. true≢false (sym (ap (λ s. same_spot s a.spot) (sym same) ∙ same_spot-self a.spot) ∙ h)) apart.0)) rest
       at_head false rest = rest
 
   length-spots_of : (l : List (Acceptance Op)) (g : SpotSet) → length (spots_of l g) ≡ size_of l g
   length-spots_of [] g = refl
   length-spots_of (a ∷ l) g = at_head (g a.spot) (length-spots_of l g)
     where
-      at_head : (t : Bool) → length (spots_of l g) ≡ size_of l g → length (cond t (put_spot a.spot (spots_of l g)) (spots_of l g)) ≡ cond t (suc (size_of l g)) (size_of l g)
-      at_head true rest = length-put_spot a.spot (spots_of l g) ∙ ap suc rest
+      at_head : (t : Bool) → length (spots_of l g) ≡ size_of l g → length (cond t (insert_spot a.spot (spots_of l g)) (spots_of l g)) ≡ cond t (suc (size_of l g)) (size_of l g)
+      at_head true rest = length-inserted is_before a.spot (spots_of l g) ∙ ap suc rest
       at_head false rest = rest
 
   among-log : (us : List (LogUpdate Op)) (u : LogUpdate Op) → IsAmong u us → IsAmong u.spot (map (λ x. x.spot) us)

@@ -1,4 +1,4 @@
-use Rattle.std.proofs.Common.{◌≡◌, ◌∷◌, [], true, subst, sym, ◌∙◌, List, ℕ}
+use Rattle.std.proofs.Common.{◌≡◌, ◌∷◌, [], true, subst, List, ℕ}
 use Rattle.std.specs.Prelude.{Option, OnOk, unwrap_or}
 use Rattle.lr_base.specs.Meaning.{is_printable}
 use Rattle.lr_words.specs.TextLaws.{word-written}
