@@ -2,9 +2,7 @@
 use Rattle.std.proofs.Common.{◌≡◌, ℕ, zero, suc, Bool, true, false, List, [], ◌∷◌, refl, Some, None, subst}
 use Rattle.std.specs.Prelude.{filter, slice_get}
 use Rattle.std.specs.Option.{ForSome}
-use Rattle.lr_base.specs.declared.messages.LogAck.{LogAck}
-use Rattle.lr_base.specs.declared.messages.LogUpdate.{LogUpdate}
-use Rattle.lr_base.specs.Rules.{is_before, put_ack, put_acks, put_update, put_updates}
+use Rattle.lr_base.specs.Insertion.{insert_all_by, insert_by}
 
 -- something holds of each element of a list
 abbrev pub Each : {X : Type 0} → (X → Type 0) → List X → Type 0
@@ -34,31 +32,17 @@ module _ {X : Type 0} (P : X → Type 0) where
       go true is later = rw is (Each-front x (filter test xs) (passes x is) later)
       go false is later = rw is later
 
-module _ {Op : Type 0} (P : LogUpdate Op → Type 0) where
-  -- a log of such updates with one more
-  pub Each-put : (u : LogUpdate Op) (updates : List (LogUpdate Op)) → P u → Each P updates → Each P (put_update u updates)
-  Each-put u [] own all = Each-front P u [] own all
-  Each-put u (x ∷ updates) own all = go (is_before u.spot x.spot) refl (Each-put u updates own (λ k. all (suc k)))
+module _ {X : Type 0} (P : X → Type 0) (goes_before : X → X → Bool) where
+  -- a sorted list of such elements with one more
+  pub Each-insert : (x : X) (xs : List X) → P x → Each P xs → Each P (insert_by goes_before x xs)
+  Each-insert x [] own all = Each-front P x [] own all
+  Each-insert x (y ∷ xs) own all = go (goes_before x y) refl (Each-insert x xs own (λ k. all (suc k)))
     where
-      go : (before : Bool) → is_before u.spot x.spot ≡ before → Each P (put_update u updates) → Each P (put_update u (x ∷ updates))
-      go true is later = rw is (Each-front P u (x ∷ updates) own all)
-      go false is later = rw is (Each-front P x (put_update u updates) (all 0 x refl) later)
+      go : (here : Bool) → goes_before x y ≡ here → Each P (insert_by goes_before x xs) → Each P (insert_by goes_before x (y ∷ xs))
+      go true is later = rw is (Each-front P x (y ∷ xs) own all)
+      go false is later = rw is (Each-front P y (insert_by goes_before x xs) (all 0 y refl) later)
 
   -- with more of them
-  pub Each-put_all : (more updates : List (LogUpdate Op)) → Each P more → Each P updates → Each P (put_updates more updates)
-  Each-put_all [] updates own all = all
-  Each-put_all (u ∷ more) updates own all = Each-put_all more (put_update u updates) (λ k. own (suc k)) (Each-put u updates (own 0 u refl) all)
-
-module _ (P : LogAck → Type 0) where
-  -- and of such acknowledgements
-  pub Each-put_ack : (a : LogAck) (acks : List LogAck) → P a → Each P acks → Each P (put_ack a acks)
-  Each-put_ack a [] own all = Each-front P a [] own all
-  Each-put_ack a (x ∷ acks) own all = go (is_before a.spot x.spot) refl (Each-put_ack a acks own (λ k. all (suc k)))
-    where
-      go : (before : Bool) → is_before a.spot x.spot ≡ before → Each P (put_ack a acks) → Each P (put_ack a (x ∷ acks))
-      go true is later = rw is (Each-front P a (x ∷ acks) own all)
-      go false is later = rw is (Each-front P x (put_ack a acks) (all 0 x refl) later)
-
-  pub Each-put_acks : (more acks : List LogAck) → Each P more → Each P acks → Each P (put_acks more acks)
-  Each-put_acks [] acks own all = all
-  Each-put_acks (a ∷ more) acks own all = Each-put_acks more (put_ack a acks) (λ k. own (suc k)) (Each-put_ack a acks (own 0 a refl) all)
+  pub Each-insert_all : (more xs : List X) → Each P more → Each P xs → Each P (insert_all_by goes_before more xs)
+  Each-insert_all [] xs own all = all
+  Each-insert_all (x ∷ more) xs own all = Each-insert_all more (insert_by goes_before x xs) (λ k. own (suc k)) (Each-insert x xs (own 0 x refl) all)

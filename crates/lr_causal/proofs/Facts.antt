@@ -4,9 +4,9 @@ use Rattle.std.specs.Prelude.{filter, find}
 use Rattle.std.specs.Option.{ForSome}
 use Rattle.lr_base.specs.declared.lr_service.Kind.{Kind}
 use Rattle.lr_base.specs.declared.messages.LogUpdate.{LogUpdate}
-use Rattle.lr_base.specs.Rules.{is_new, new_updates, put_update, put_updates}
+use Rattle.lr_base.specs.Rules.{is_before, is_new, new_updates, insert_update, insert_updates}
 use Rattle.lr_base.specs.Logged.{IsLogged, AllLogged}
-use Rattle.lr_causal.proofs.Each.{Each-filter, Each-put, Each-put_all}
+use Rattle.lr_causal.proofs.Each.{Each-filter, Each-insert, Each-insert_all}
 use Rattle.lr_log.specs.Items.{Items}
 
 module _ {Op : Type 0} (kind_of : Op → Kind) (parts : ℕ) where
@@ -20,8 +20,8 @@ module _ {Op : Type 0} (kind_of : Op → Kind) (parts : ℕ) where
       go false is later = rw is later
 
   -- a log that gained such an update
-  pub AllLogged-more : (log new : Items Op) (u : LogUpdate Op) → new ≡ record log { updates = put_update u log.updates } → IsLogged kind_of parts u → AllLogged kind_of parts log.updates → AllLogged kind_of parts new.updates
-  AllLogged-more log new u is own all = rw is (Each-put (IsLogged kind_of parts) u log.updates own all)
+  pub AllLogged-more : (log new : Items Op) (u : LogUpdate Op) → new ≡ record log { updates = insert_update u log.updates } → IsLogged kind_of parts u → AllLogged kind_of parts log.updates → AllLogged kind_of parts new.updates
+  AllLogged-more log new u is own all = rw is (Each-insert (IsLogged kind_of parts) (λ (a b : LogUpdate Op). is_before a.spot b.spot) u log.updates own all)
 
   -- a log that stayed
   pub AllLogged-same : (log new : Items Op) → new ≡ log → AllLogged kind_of parts log.updates → AllLogged kind_of parts new.updates
@@ -36,6 +36,6 @@ module _ {Op : Type 0} (kind_of : Op → Kind) (parts : ℕ) where
   AllLogged-filter test updates kept is all = rw is (Each-filter (IsLogged kind_of parts) test updates all)
 
   -- a log that gained what is new of some
-  pub AllLogged-gained : (rep_ts : List ℕ) (told new : List (LogUpdate Op)) (own : List (LogUpdate Op)) (log : Items Op) → new ≡ new_updates rep_ts told → log.updates ≡ put_updates new own → AllLogged kind_of parts told → AllLogged kind_of parts own → AllLogged kind_of parts log.updates
+  pub AllLogged-gained : (rep_ts : List ℕ) (told new : List (LogUpdate Op)) (own : List (LogUpdate Op)) (log : Items Op) → new ≡ new_updates rep_ts told → log.updates ≡ insert_updates new own → AllLogged kind_of parts told → AllLogged kind_of parts own → AllLogged kind_of parts log.updates
   AllLogged-gained rep_ts told new own log is gained all all_own =
-      rw (gained, is) (Each-put_all (IsLogged kind_of parts) (new_updates rep_ts told) own (Each-filter (IsLogged kind_of parts) (λ u. is_new rep_ts u.spot) told all) all_own)
+      rw (gained, is) (Each-insert_all (IsLogged kind_of parts) (λ (a b : LogUpdate Op). is_before a.spot b.spot) (new_updates rep_ts told) own (Each-filter (IsLogged kind_of parts) (λ u. is_new rep_ts u.spot) told all) all_own)

@@ -10,13 +10,13 @@ use Rattle.lr_base.specs.declared.messages.Known.{Known}
 use Rattle.lr_base.specs.declared.messages.LogAck.{LogAck}
 use Rattle.lr_base.specs.declared.messages.LogUpdate.{LogUpdate}
 use Rattle.lr_base.specs.declared.names.Cid.{Cid}
-use Rattle.lr_base.specs.Rules.{CausalState, gossip_taken, is_new, new_acks, new_updates, put_acks, put_update}
+use Rattle.lr_base.specs.Rules.{CausalState, gossip_taken, is_before, is_new, new_acks, new_updates, insert_acks, insert_update}
 use Rattle.lr_base.specs.Stamps.{join, part, set_part}
 use Rattle.lr_base.specs.StampLaws.{join-least, length-join, length-set_part, parts-stamp_le, stamp_le-refl, stamp_le-trans}
 use Rattle.lr_value.specs.Applied.{Applied}
 use Rattle.lr_causal.specs.Causal.{AllAcksReceived, AllReceived}
 use Rattle.lr_causal.specs.Savepoint.{HasShapeOf, IsPointOf, Saved, restored, value_before}
-use Rattle.lr_causal.proofs.Kept.{filter-none, filter-put, filter-put_acks, filter-put_all}
+use Rattle.lr_causal.proofs.Kept.{filter-none, filter-insert, filter-insert_all}
 use Rattle.lr_causal.proofs.Each.{Each-passes}
 use Rattle.lr_causal.proofs.Received.{new-earlier, set_part-above}
 use Rattle.lr_log.specs.Items.{Items, items_of}
@@ -66,13 +66,13 @@ module _ {Value Op : Type 0} where
       }
 
   -- the next update of a place is logged
-  pub point-logged : (p : Saved Value) (u : LogUpdate Op) (state before : CausalState Value Op) (rep_ts : List ℕ) (log : Items Op) → u.spot.place < length state.rep_ts → u.spot.number ≡ part state.rep_ts u.spot.place + 1 → rep_ts ≡ set_part state.rep_ts u.spot.place u.spot.number → log ≡ items_of (put_update u state.updates) state.acks → IsPointOf p state before → IsPointOf p (record state { rep_ts = rep_ts; updates = log.updates; acks = log.acks; top = u.spot.number }) before
+  pub point-logged : (p : Saved Value) (u : LogUpdate Op) (state before : CausalState Value Op) (rep_ts : List ℕ) (log : Items Op) → u.spot.place < length state.rep_ts → u.spot.number ≡ part state.rep_ts u.spot.place + 1 → rep_ts ≡ set_part state.rep_ts u.spot.place u.spot.number → log ≡ items_of (insert_update u state.updates) state.acks → IsPointOf p state before → IsPointOf p (record state { rep_ts = rep_ts; updates = log.updates; acks = log.acks; top = u.spot.number }) before
   point-logged p u state before rep_ts log within next at is point =
       let most = parts-stamp_le p.rep_ts state.rep_ts point.received u.spot.place in
       let new : is_new p.rep_ts u.spot ≡ true = lt-ltb (part p.rep_ts u.spot.place) u.spot.number (omega arith) in
       rw (at, is) record {
         restores =
-            ap (λ (updates : List (LogUpdate Op)). record (restored p state) { updates = updates }) (filter-put (λ (x : LogUpdate Op). is_new p.rep_ts x.spot) u state.updates new)
+            ap (λ (updates : List (LogUpdate Op)). record (restored p state) { updates = updates }) (filter-insert (λ (x : LogUpdate Op). is_new p.rep_ts x.spot) (λ (a b : LogUpdate Op). is_before a.spot b.spot) u state.updates new)
             ∙ point.restores;
         received = stamp_le-trans p.rep_ts state.rep_ts (set_part state.rep_ts u.spot.place u.spot.number) point.received (set_part-above state.rep_ts u.spot.place u.spot.number (omega arith));
         calls_most = point.calls_most;
@@ -85,13 +85,13 @@ module _ {Value Op : Type 0} where
       → length gossip.rep_ts ≡ length state.rep_ts → IsPointOf p state before → IsPointOf p (gossip_taken from state gossip) before
   point-taken p from state before gossip heard long point =
       let joined = join (get_or state.table from []) gossip.rep_ts in
-      let all_acks = put_acks (new_acks state.rep_ts gossip.acks) state.acks in
+      let all_acks = insert_acks (new_acks state.rep_ts gossip.acks) state.acks in
       let updates =
-      filter-put_all (λ (u : LogUpdate Op). is_new p.rep_ts u.spot) (new_updates state.rep_ts gossip.updates) state.updates
+      filter-insert_all (λ (u : LogUpdate Op). is_new p.rep_ts u.spot) (λ (a b : LogUpdate Op). is_before a.spot b.spot) (new_updates state.rep_ts gossip.updates) state.updates
       (Each-passes (λ (u : LogUpdate Op). is_new p.rep_ts u.spot ≡ true) (λ u. is_new state.rep_ts u.spot) gossip.updates
       (λ u new. new-earlier p.rep_ts state.rep_ts u.spot point.received new)) in
       let acks =
-      filter-put_acks (λ (a : LogAck). is_new p.rep_ts a.spot) (new_acks state.rep_ts gossip.acks) state.acks
+      filter-insert_all (λ (a : LogAck). is_new p.rep_ts a.spot) (λ (a b : LogAck). is_before a.spot b.spot) (new_acks state.rep_ts gossip.acks) state.acks
       (Each-passes (λ (a : LogAck). is_new p.rep_ts a.spot ≡ true) (λ a. is_new state.rep_ts a.spot) gossip.acks
       (λ a new. new-earlier p.rep_ts state.rep_ts a.spot point.received new)) in
       let table = set (set state.table from joined) p.heard p.row in

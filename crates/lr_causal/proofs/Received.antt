@@ -4,11 +4,11 @@ use Rattle.std.specs.Prelude.{filter}
 use Rattle.lr_base.specs.declared.messages.LogAck.{LogAck}
 use Rattle.lr_base.specs.declared.messages.LogUpdate.{LogUpdate}
 use Rattle.lr_base.specs.declared.names.Spot.{Spot}
-use Rattle.lr_base.specs.Rules.{is_new, new_acks, new_updates, put_acks, put_update, put_updates}
+use Rattle.lr_base.specs.Rules.{is_before, is_new, new_acks, new_updates, insert_acks, insert_update, insert_updates}
 use Rattle.lr_base.specs.Stamps.{join, part, set_part, stamp_le}
 use Rattle.lr_base.specs.StampLaws.{join-least, part-set_part, parts-stamp_le, stamp_le-refl}
 use Rattle.lr_causal.specs.Causal.{AllAcksReceived, AllReceived}
-use Rattle.lr_causal.proofs.Each.{Each-filter, Each-passes, Each-put, Each-put_acks, Each-put_all}
+use Rattle.lr_causal.proofs.Each.{Each-filter, Each-passes, Each-insert, Each-insert_all}
 use Rattle.lr_log.specs.Items.{Items}
 
 -- a stamp with a greater part is above
@@ -49,20 +49,20 @@ module _ {Op : Type 0} where
   AllReceived-along rep_ts stamp updates same at is all = rw (at, is) all
 
   -- a log that gained the next update of a place
-  pub AllReceived-next : (rep_ts stamp : List ℕ) (u : LogUpdate Op) (log new : Items Op) → stamp ≡ set_part rep_ts u.spot.place u.spot.number → part rep_ts u.spot.place ≤ u.spot.number → new ≡ record log { updates = put_update u log.updates } → AllReceived rep_ts log.updates → AllReceived stamp new.updates
+  pub AllReceived-next : (rep_ts stamp : List ℕ) (u : LogUpdate Op) (log new : Items Op) → stamp ≡ set_part rep_ts u.spot.place u.spot.number → part rep_ts u.spot.place ≤ u.spot.number → new ≡ record log { updates = insert_update u log.updates } → AllReceived rep_ts log.updates → AllReceived stamp new.updates
   AllReceived-next rep_ts stamp u log new at more is all =
       let own : is_new (set_part rep_ts u.spot.place u.spot.number) u.spot ≡ false =
       le-ltb (part (set_part rep_ts u.spot.place u.spot.number) u.spot.place) u.spot.number (let written = part-set_part rep_ts u.spot.place u.spot.number in omega arith) in
       rw (at, is)
-      (Each-put (λ (x : LogUpdate Op). is_new (set_part rep_ts u.spot.place u.spot.number) x.spot ≡ false) u log.updates own
+      (Each-insert (λ (x : LogUpdate Op). is_new (set_part rep_ts u.spot.place u.spot.number) x.spot ≡ false) (λ (a b : LogUpdate Op). is_before a.spot b.spot) u log.updates own
       (AllReceived-later rep_ts (set_part rep_ts u.spot.place u.spot.number) log.updates log.updates (set_part-above rep_ts u.spot.place u.spot.number more) refl all))
 
   -- a log that gained what is new of some
-  pub AllReceived-gained : (rep_ts told_ts stamp : List ℕ) (told new own updates : List (LogUpdate Op)) → stamp ≡ join rep_ts told_ts → new ≡ new_updates rep_ts told → updates ≡ put_updates new own → AllReceived told_ts told → AllReceived rep_ts own → AllReceived stamp updates
+  pub AllReceived-gained : (rep_ts told_ts stamp : List ℕ) (told new own updates : List (LogUpdate Op)) → stamp ≡ join rep_ts told_ts → new ≡ new_updates rep_ts told → updates ≡ insert_updates new own → AllReceived told_ts told → AllReceived rep_ts own → AllReceived stamp updates
   AllReceived-gained rep_ts told_ts stamp told new own updates at is gained all all_own =
       let above = join-least rep_ts told_ts in
       rw (at, gained, is)
-      (Each-put_all (λ (u : LogUpdate Op). is_new (join rep_ts told_ts) u.spot ≡ false) (new_updates rep_ts told) own
+      (Each-insert_all (λ (u : LogUpdate Op). is_new (join rep_ts told_ts) u.spot ≡ false) (λ (a b : LogUpdate Op). is_before a.spot b.spot) (new_updates rep_ts told) own
       (Each-filter (λ (u : LogUpdate Op). is_new (join rep_ts told_ts) u.spot ≡ false) (λ u. is_new rep_ts u.spot) told (AllReceived-later told_ts (join rep_ts told_ts) told told above.above_second refl all))
       (AllReceived-later rep_ts (join rep_ts told_ts) own own above.above_first refl all_own))
 
@@ -81,11 +81,11 @@ AllAcksReceived-along rep_ts stamp acks same at is all = rw (at, is) all
 pub AllAcksReceived-next : (rep_ts stamp : List ℕ) (place n : ℕ) (acks same : List LogAck) → stamp ≡ set_part rep_ts place n → part rep_ts place ≤ n → same ≡ acks → AllAcksReceived rep_ts acks → AllAcksReceived stamp same
 AllAcksReceived-next rep_ts stamp place n acks same at more is all = rw at (AllAcksReceived-later rep_ts (set_part rep_ts place n) acks same (set_part-above rep_ts place n more) is all)
 
-pub AllAcksReceived-gained : (rep_ts told_ts stamp : List ℕ) (told new own acks : List LogAck) → stamp ≡ join rep_ts told_ts → new ≡ new_acks rep_ts told → acks ≡ put_acks new own → AllAcksReceived told_ts told → AllAcksReceived rep_ts own → AllAcksReceived stamp acks
+pub AllAcksReceived-gained : (rep_ts told_ts stamp : List ℕ) (told new own acks : List LogAck) → stamp ≡ join rep_ts told_ts → new ≡ new_acks rep_ts told → acks ≡ insert_acks new own → AllAcksReceived told_ts told → AllAcksReceived rep_ts own → AllAcksReceived stamp acks
 AllAcksReceived-gained rep_ts told_ts stamp told new own acks at is gained all all_own =
     let above = join-least rep_ts told_ts in
     rw (at, gained, is)
-    (Each-put_acks (λ (a : LogAck). is_new (join rep_ts told_ts) a.spot ≡ false) (new_acks rep_ts told) own
+    (Each-insert_all (λ (a : LogAck). is_new (join rep_ts told_ts) a.spot ≡ false) (λ (a b : LogAck). is_before a.spot b.spot) (new_acks rep_ts told) own
     (Each-filter (λ (a : LogAck). is_new (join rep_ts told_ts) a.spot ≡ false) (λ a. is_new rep_ts a.spot) told (AllAcksReceived-later told_ts (join rep_ts told_ts) told told above.above_second refl all))
     (AllAcksReceived-later rep_ts (join rep_ts told_ts) own own above.above_first refl all_own))
 
