@@ -24,6 +24,6 @@ pub use executed::Executed;
 pub use laws::{join_is_least, order_of_stamps, set_part_changes_one};
 pub use messages::{Call, Fresh, Gossip, Known, LogAck, LogUpdate, Message};
 pub use names::{Actor, Cid, Config, Spot};
-pub use numbers::read_number;
+pub use numbers::{put_number, read_number};
 pub use rows::{NoMemory, Rows, Text};
 pub use stamp::Stamp;

@@ -35,16 +35,19 @@ is_called m op = m.is_op op && has_rules (m.kind op)
 abbrev pub IsNoCalled : {Value Op : Type 0} → Meaning Value Op → List ℕ → Type 0
 IsNoCalled {Value} {Op} m text = (op : Op) → is_called m op ≡ true → m.text op ≢ text
 
--- an event names a client and replicas that there are, gossip two of them, and it has numbers that fit and calls an operation that has rules
+-- an event names a client and replicas that there are, gossip two of them, and it has numbers that fit and calls an
+-- operation that has rules
 abbrev pub Fits : {Value Op : Type 0} → Meaning Value Op → Config → Event Op → Type 0
-Fits m config (Call client replica reading op) = (client < config.clients) × (replica < config.replicas) × (reading < 2 ^ 64) × (is_called m op ≡ true)
+Fits m config (Call client replica reading op) =
+    (client < config.clients) × (replica < config.replicas) × (reading < 2 ^ 64) × (is_called m op ≡ true)
 Fits m config (Deliver message) = message < 2 ^ 64
 Fits m config (Gossip from to) = (from < config.replicas) × (to < config.replicas) × (from ≢ to)
 Fits m config (Show replica) = replica < config.replicas
 
 -- an event's numbers fit in 64 bits, and it calls an operation of the service
 abbrev pub EventFits : {Value Op : Type 0} → Meaning Value Op → Event Op → Type 0
-EventFits m (Call client replica reading op) = (client < 2 ^ 64) × (replica < 2 ^ 64) × (reading < 2 ^ 64) × (m.is_op op ≡ true)
+EventFits m (Call client replica reading op) =
+    (client < 2 ^ 64) × (replica < 2 ^ 64) × (reading < 2 ^ 64) × (m.is_op op ≡ true)
 EventFits m (Deliver message) = message < 2 ^ 64
 EventFits m (Gossip from to) = (from < 2 ^ 64) × (to < 2 ^ 64)
 EventFits m (Show replica) = replica < 2 ^ 64
@@ -57,14 +60,23 @@ pub record HasHeader (header : Header) (bytes : List ℕ) : Type 0 where
 
 -- a header that is read of the bytes names the service of this number
 abbrev pub IsNamed : ℕ → List ℕ → Type 0
-IsNamed number bytes = (header : Header) → HasHeader header bytes → length bytes ≤ 8388608 → service_number header.service ≡ number
+IsNamed number bytes =
+    (header : Header) → HasHeader header bytes → length bytes ≤ 8388608 → service_number header.service ≡ number
 
 -- the bytes are few enough, and the text of this header and these events
-pub record IsScript {Value Op : Type 0} (m : Meaning Value Op) (header : Header) (events : List (Event Op)) (bytes : List ℕ) : Type 0 where
+pub record IsScript {Value Op : Type 0}
+    (m : Meaning Value Op) (header : Header) (events : List (Event Op)) (bytes : List ℕ) : Type 0 where
   pub valid : IsSetUp header.config
   pub fit : All (Fits m header.config) events
   pub short : length bytes ≤ 8388608
   pub text : bytes ≡ script_text m header events
+
+-- there is a header with which the bytes are the script of these events, and they are so with each that they begin with
+pub record AreEventsOf {Value Op : Type 0}
+    (m : Meaning Value Op) (bytes : List ℕ) (events : List (Event Op)) : Type 0 where
+  pub header : Header
+  pub script : IsScript m header events bytes
+  pub same : (other : Header) → HasHeader other bytes → IsScript m other events bytes
 
 -- the bytes are no header's and no events' text
 abbrev pub IsNoScript : {Value Op : Type 0} → Meaning Value Op → List ℕ → Type 0
