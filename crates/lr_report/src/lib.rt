@@ -10,4 +10,4 @@ mod state_lines;
 mod tests;
 
 pub use laws::printed_tells_histories_apart;
-pub use rendering::{render_header, render_step};
+pub use rendering::{render_header, render_printed_step, render_step};
