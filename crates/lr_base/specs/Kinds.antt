@@ -23,12 +23,7 @@ IsQuery kind = is_query kind ≡ true
 abbrev pub IsUpdate : Kind → Type 0
 IsUpdate kind = is_query kind ≡ false
 
--- an operation of this kind is ordered by labels alone
-pub record IsPlain (kind : Kind) : Type 0 where
-  pub not_forced : is_forced kind ≡ false
-  pub not_immediate : is_immediate kind ≡ false
-
--- operations of this kind have rules in a run
+-- operations of this kind have rules in a run: they are ordered by labels alone
 abbrev pub has_rules : Kind → Bool
 has_rules kind = not (is_forced kind) && not (is_immediate kind)
 

@@ -3,8 +3,9 @@ use Rattle.std.proofs.Common.{◌≡◌, ◌≢◌, ℕ, suc, ◌+◌, ◌<◌, 
 use Rattle.std.proofs.lemmas.List.{append-nil}
 use Rattle.std.specs.List.{slice_get}
 use Rattle.std.specs.Option.{option_map}
-use Rattle.lr_base.specs.Fronts.{FrontState, called, clock_read, is_open, message_of, next_cid}
-use Rattle.lr_base.specs.Kinds.{IsPlain, is_query}
+use Rattle.lr_base.specs.Events.{IsEventOf}
+use Rattle.lr_base.specs.Fronts.{FrontEnding, FrontState, called, clock_read, front_on_call, front_on_message, is_open, message_of, next_cid, reply_acts}
+use Rattle.lr_base.specs.Kinds.{has_rules, is_query}
 use Rattle.lr_base.specs.Meaning.{Lawful, Meaning}
 use Rattle.lr_base.specs.Replicas.{ReplicaState}
 use Rattle.lr_base.specs.Rules.{gossip_of, same_cid}
@@ -31,7 +32,7 @@ use Rattle.lr_base.specs.declared.names.Config.{Config}
 use Rattle.lr_graph.specs.After.{after, carried, copy_of, front_called as front_read, lines_read, next_call, receiving, takes_reply}
 use Rattle.lr_graph.specs.Graph.{Acceptance, AnswerReply, Carried, DoneReply, Facts, FrontFacts, LabelledCall, QueryCopy, SentMessage, UpdateCopy}
 use Rattle.lr_graph.specs.Legal.{call_lines, delivery_lines, logged, message_lines, next_number, outcomes_of, reply_line}
-use Rattle.lr_graph.specs.Runs.{IsEventOf, RunState, Stepped, act_lines, client_called, delivered as delivered_by_rules, front_after, front_called, front_given, front_lines, given, message_at, replica_ended, replica_given, replica_gossips, reply_lines, sent_of_message, shown, stepped, unchanged, with_front}
+use Rattle.lr_graph.specs.Runs.{RunState, Stepped, act_lines, client_called, delivered as delivered_by_rules, front_ended, front_given, given, message_at, replica_ended, replica_given, replica_gossips, sent_of_message, shown, stepped, unchanged, with_front}
 use Rattle.lr_graph.specs.Sets.{SpotSet, put_at, ◌∪◌}
 use Rattle.lr_graph.specs.Closed.{IsAmong, IsAccepted, IsSetOf, IsWithin}
 use Rattle.lr_graph.specs.Names.{Names}
@@ -67,6 +68,10 @@ pub record IsSameStep {Value Op : Type 0} (m : Meaning Value Op) (config : Confi
   pub same : IsSame m config (after w (record { event = event; outcomes = outcomes_of m config w event })) s.run
 
 module _ {Value Op : Type 0} (m : Meaning Value Op) (kind_of : Op → Kind) (lawful : Lawful m kind_of) (config : Config) where
+  -- an actor that only says lines sends nothing
+  says_only : (w : Facts Op) (run : RunState Value Op) → IsSame m config w run → IsSame m config w (record run { posted = run.posted ++ [] })
+  says_only w run same = subst (λ (posted : List (Posted Op)). IsSame m config w (record run { posted = posted })) (sym (append-nil run.posted)) same
+
   -- ---- a reply comes to a front end
 
   module _ (w : Facts Op) (v : RunState Value Op) (same : IsSame m config w v) (client : ℕ) (here : client < config.clients) (front : FrontState) (there : slice_get v.fronts client ≡ Some front) (is : SameFront w.accepted client (w.front client) front) where
@@ -106,14 +111,31 @@ module _ {Value Op : Type 0} (m : Meaning Value Op) (kind_of : Op → Kind) (law
         (record { client_is = is.client_is; calls = is.calls; clock = is.clock; open_call = refl; names = names-join front.label stamp (w.front client).label names is.names named; set = set-both w.accepted (w.front client).label names is.set set })
         (omega arith) (λ c h. refl) tt
 
-    abbrev Given : Carried Op → List Outcome → FrontState → List Outcome → Type 0
-    Given what printed front lines = (printed ≡ lines) × ((number : ℕ) (from : Actor) → IsSame m config (lines_read (Some (record { number = number; from = from; to = Client client; what = what })) w lines) (with_front v client front))
+    abbrev Given : Carried Op → FrontEnding Op → List Outcome → Type 0
+    Given what end lines =
+        ((front_ended v client end).outcomes ≡ lines)
+        × ((number : ℕ) (from : Actor) → IsSame m config (lines_read (Some (record { number = number; from = from; to = Client client; what = what })) w lines) (front_ended v client end).run)
+
+    -- the front end after a reply, which is taken or not, with what it says
+    abbrev reply_end : Cid → List ℕ → Bool → FrontEnding Op
+    reply_end cid stamp opened = record {
+      front = cond opened (record front { label = join front.label stamp; open_call = None }) front;
+      acts = reply_acts cid opened;
+    }
+
+    -- the run in which the reply with this stamp is taken
+    abbrev run_taken : List ℕ → RunState Value Op
+    run_taken stamp = with_front v client (record front { label = join front.label stamp; open_call = None })
+
+    -- a reply to another call changes nothing
+    not_taken : (number : ℕ) (from : Actor) → IsSame m config w (with_front (record v { posted = v.posted ++ [] }) client front)
+    not_taken number from = says_only w (with_front v client front) unchanged_front
 
     reply : (what : Carried Op) (names : SpotSet) (cid other : Cid) (stamp : List ℕ) → cid ≡ other → Names stamp names → IsSetOf w.accepted names
         → ((number : ℕ) (from : Actor) → lines_read (Some (record { number = number; from = from; to = Client client; what = what })) w (Got cid ∷ []) ≡ takes_reply w client names)
         → (open_call : Option (LabelledCall Op)) (open_cid : Option Cid) → option_map (λ c. c.cid) open_call ≡ open_cid
-        → Given what (reply_lines other (is_open open_cid other)) (cond (is_open open_cid other) (record front { label = join front.label stamp; open_call = None }) front) (reply_line open_call cid ∷ [])
-    reply what names cid other stamp same_cids named set reads None None e = (λ k. Stale (sym same_cids k) ∷ [], λ number from. unchanged_front)
+        → Given what (reply_end other stamp (is_open open_cid other)) (reply_line open_call cid ∷ [])
+    reply what names cid other stamp same_cids named set reads None None e = (λ k. Stale (sym same_cids k) ∷ [], not_taken)
     reply what names cid other stamp same_cids named set reads None (Some o) e = absurd (none_some e)
       where
         none_some : ◌≡◌ {A = Option Cid} None (Some o) → ⊥
@@ -128,14 +150,17 @@ module _ {Value Op : Type 0} (m : Meaning Value Op) (kind_of : Op → Kind) (law
         tests : same_cid c.cid cid ≡ same_cid o other
         tests = let is : c.cid ≡ o = cc in λ k. same_cid (is k) (same_cids k)
 
-        by_test : (s t : Bool) → s ≡ t → Given what (reply_lines other t) (cond t (record front { label = join front.label stamp; open_call = None }) front) (cond s (Got cid) (Stale cid) ∷ [])
-        by_test true true q = (λ k. Got (sym same_cids k) ∷ [], λ number from. subst (λ (facts : Facts Op). IsSame m config facts (with_front v client (record front { label = join front.label stamp; open_call = None }))) (sym (reads number from)) (taken_front names stamp named set))
-        by_test false false q = (λ k. Stale (sym same_cids k) ∷ [], λ number from. unchanged_front)
+        by_test : (s t : Bool) → s ≡ t → Given what (reply_end other stamp t) (cond s (Got cid) (Stale cid) ∷ [])
+        by_test true true q = (
+          λ k. Got (sym same_cids k) ∷ [],
+          λ number from. subst (λ (facts : Facts Op). IsSame m config facts (record (run_taken stamp) { posted = v.posted ++ [] })) (sym (reads number from)) (says_only (takes_reply w client names) (run_taken stamp) (taken_front names stamp named set)),
+        )
+        by_test false false q = (λ k. Stale (sym same_cids k) ∷ [], not_taken)
         by_test true false q = absurd (true≢false q)
         by_test false true q = absurd (true≢false (sym q))
 
     front-given : (from : Actor) (what : Carried Op) (message : Message Op) → IsWay from (Client client) what → SameCarried m config w.accepted w.received same.issued (calls_in w) what message
-        → Given what (front_lines message front) (front_after message front) (message_lines m config w (Client client) what)
+        → Given what (front_on_message message front) (message_lines m config w (Client client) what)
     front-given from what message way (same_done cid other names spot stamp cids named set) =
         reply (DoneReply cid names) names cid other stamp cids named set (λ number from. refl) (w.front client).open_call front.open_call is.open_call
     front-given from what message way (same_answer cid other names text stamp cids named set) =
@@ -188,7 +213,7 @@ module _ {Value Op : Type 0} (m : Meaning Value Op) (kind_of : Op → Kind) (law
         let gives = front-given w v same client within front.0 front.1 front.2 from what message way carries in
         subst (λ (o : Option FrontState). Delivers n (Some (record { number = number; from = from; to = Client client; what = what })) (front_given v client message o)) (sym front.1) (record {
           lines = gives.0 ∙ sym (append-nil (message_lines m config w (Client client) what));
-          same = subst (λ (lines : List Outcome). IsSame m config (lines_read (Some (record { number = number; from = from; to = Client client; what = what })) w lines) (with_front v client (front_after message front.0))) (sym (append-nil (message_lines m config w (Client client) what))) (gives.1 number from);
+          same = subst (λ (lines : List Outcome). IsSame m config (lines_read (Some (record { number = number; from = from; to = Client client; what = what })) w lines) (front_ended v client (front_on_message message front.0)).run) (sym (append-nil (message_lines m config w (Client client) what))) (gives.1 number from);
         })
 
     to_actor : (n number : ℕ) (from : Actor) (what : Carried Op) (to : Actor) → IsThere config to → IsWay from to what → (message : Message Op) → SameCarried m config w.accepted w.received same.issued (calls_in w) what message
@@ -222,7 +247,7 @@ module _ {Value Op : Type 0} (m : Meaning Value Op) (kind_of : Op → Kind) (law
 
   -- ---- a client calls
 
-  module _ (w : Facts Op) (v : RunState Value Op) (same : IsSame m config w v) (client replica reading : ℕ) (op : Op) (here : client < config.clients) (other : replica < config.replicas) (plain : IsPlain (m.kind op))
+  module _ (w : Facts Op) (v : RunState Value Op) (same : IsSame m config w v) (client replica reading : ℕ) (op : Op) (here : client < config.clients) (other : replica < config.replicas) (plain : has_rules (m.kind op) ≡ true)
       (front : FrontState) (there : slice_get v.fronts client ≡ Some front) (is : SameFront w.accepted client (w.front client) front) where
     abbrev facts : FrontFacts Op
     facts = w.front client
@@ -237,10 +262,11 @@ module _ {Value Op : Type 0} (m : Meaning Value Op) (kind_of : Op → Kind) (law
         × IsSame m config (lines_read None (record w { front = put_at client (front_read client reading op facts o worn) w.front }) (call_lines m w client replica (max facts.clock reading) op o worn ++ [])) s.run
 
     -- a refused call's reading counts
-    refused : (o : Option (LabelledCall Op)) → facts.open_call ≡ o → IsSame m config (record w { front = put_at client (record facts { clock = max facts.clock reading }) w.front }) (with_front v client (clock_read reading front))
-    refused o e = front-changed m config w v same client here front there same.issued (record facts { clock = max facts.clock reading }) (clock_read reading front)
+    refused : (o : Option (LabelledCall Op)) → facts.open_call ≡ o
+        → IsSame m config (record w { front = put_at client (record facts { clock = max facts.clock reading }) w.front }) (with_front (record v { posted = v.posted ++ [] }) client (clock_read reading front))
+    refused o e = says_only (record w { front = put_at client (record facts { clock = max facts.clock reading }) w.front }) (with_front v client (clock_read reading front)) (front-changed m config w v same client here front there same.issued (record facts { clock = max facts.clock reading }) (clock_read reading front)
         (record { client_is = is.client_is; calls = is.calls; clock = clock_is; open_call = is.open_call; names = is.names; set = is.set })
-        (omega arith) (λ c h. refl) (still facts.open_call (same.shared.opened client))
+        (omega arith) (λ c h. refl) (still facts.open_call (same.shared.opened client)))
       where
         calls_stay : (j : ℕ) → calls_in w j ≤ (put_at client (record facts { clock = max facts.clock reading }) w.front j).calls
         calls_stay j = by_place (j == client) refl
@@ -324,7 +350,7 @@ module _ {Value Op : Type 0} (m : Meaning Value Op) (kind_of : Op → Kind) (law
     reads_copy : (copy : LabelledCall Op → Carried Op) → copy_of (w1.front client).open_call copy ≡ copy call
     reads_copy copy = ap (λ (f : FrontFacts Op). copy_of f.open_call copy) (put-same client opened_front w.front)
 
-    made : (kind : Kind) → m.kind op ≡ kind → Calls None false (front_called m v client (Replica replica) reading op front None false)
+    made : (kind : Kind) → m.kind op ≡ kind → Calls None false (front_ended v client (front_on_call (m.kind op) (Replica replica) reading op front None false))
     made kind e = by_query (is_query (m.kind op)) refl (message_is (m.kind op))
       where
         message_is : (k : Kind) → message_of k front reading op ≡ cond (is_query k) (Query by_rules) (Update by_rules (max front.clock reading))
@@ -337,7 +363,7 @@ module _ {Value Op : Type 0} (m : Meaning Value Op) (kind_of : Op → Kind) (law
         abbrev_line b = SendLine (next_number w) (Client client) (Replica replica) (cond b (QuerySent call.cid) (UpdateSent call.cid (max facts.clock reading)))
 
         by_query : (b : Bool) → is_query (m.kind op) ≡ b → message_of (m.kind op) front reading op ≡ cond (is_query (m.kind op)) (Query by_rules) (Update by_rules (max front.clock reading))
-            → Calls None false (front_called m v client (Replica replica) reading op front None false)
+            → Calls None false (front_ended v client (front_on_call (m.kind op) (Replica replica) reading op front None false))
         by_query true q p =
             let out = sends (QueryCopy call) (QuerySent call.cid) (Query by_rules) tt (reads_copy QueryCopy) (ap QuerySent cid_is) (same_query call by_rules same_call is_issued) in
             subst₂ (λ (b : Bool) (message : Message Op).
@@ -352,7 +378,7 @@ module _ {Value Op : Type 0} (m : Meaning Value Op) (kind_of : Op → Kind) (law
             × IsSame m config (lines_read None w1 (SendLine (next_number w) (Client client) (Replica replica) (cond b (QuerySent call.cid) (UpdateSent call.cid (max facts.clock reading))) ∷ [])) (record (with_front v client (called reading front)) { posted = v.posted ++ posting (Client client) (Replica replica) message ∷ [] }))
             (sym q) (sym (p ∙ ap (λ b. cond b (Query by_rules) (Update by_rules (max front.clock reading))) q)) out
 
-    calls-same : (o : Option (LabelledCall Op)) (cid : Option Cid) → facts.open_call ≡ o → option_map (λ c. c.cid) o ≡ cid → (s t : Bool) → s ≡ t → Calls o s (front_called m v client (Replica replica) reading op front cid t)
+    calls-same : (o : Option (LabelledCall Op)) (cid : Option Cid) → facts.open_call ≡ o → option_map (λ c. c.cid) o ≡ cid → (s t : Bool) → s ≡ t → Calls o s (front_ended v client (front_on_call (m.kind op) (Replica replica) reading op front cid t))
     calls-same None None e f true true q = ((λ k. Refuse Worn ∷ []), refused None e)
     calls-same None None e f false false q = made (m.kind op) refl
     calls-same None None e f true false q = absurd (true≢false q)

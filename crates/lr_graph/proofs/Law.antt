@@ -3,6 +3,7 @@ use Rattle.std.proofs.Common.{◌≡◌, ◌≢◌, ℕ, zero, suc, ◌+◌, ◌
 use Rattle.std.specs.List.{slice_get}
 use Rattle.std.proofs.lemmas.List.{length-append}
 use Rattle.lr_base.specs.Fronts.{new_front}
+use Rattle.lr_base.specs.Events.{IsEventOf}
 use Rattle.lr_base.specs.Meaning.{Lawful, Meaning}
 use Rattle.lr_base.specs.Replicas.{first_replica}
 use Rattle.lr_base.specs.Rules.{first_state}
@@ -20,7 +21,7 @@ use Rattle.lr_graph.specs.Graph.{Facts, first_facts}
 use Rattle.lr_graph.specs.Legal.{IsLegal, LegalFrom, logged}
 use Rattle.lr_graph.specs.Names.{IsCounted, Names}
 use Rattle.lr_graph.specs.Made.{IsMade, IsMadeFrom, made_step}
-use Rattle.lr_graph.specs.Runs.{IsEventOf, RunState, first_fronts, first_replicas, first_run, message_at, run_after, steps_from, stepped}
+use Rattle.lr_graph.specs.Runs.{RunState, first_fronts, first_replicas, first_run, message_at, run_after, steps_from, stepped}
 use Rattle.lr_graph.specs.Sets.{nothing}
 use Rattle.lr_graph.proofs.Events.{same-step}
 use Rattle.lr_graph.proofs.Places.{slice-before, slice-behind}

@@ -1,6 +1,7 @@
 -- Every order of a set's acceptances that agrees where kinds need one order gives the set's value, and the order of making is one.
 use Rattle.std.proofs.Common.{◌≡◌, ◌≢◌, ℕ, Bool, true, false, cond, not, ◌&&◌, ◌||◌, if◌then◌else◌, ◌⊎◌, inl, inr, List, [], ◌∷◌, ◌++◌, filter, map, refl, sym, ap, ◌∙◌, subst, true≢false}
 use Rattle.lr_base.specs.Kinds.{IsUpdate, are_ordered, is_query}
+use Rattle.lr_base.specs.Events.{IsEventOf}
 use Rattle.lr_base.specs.Meaning.{Lawful, Meaning}
 use Rattle.lr_base.specs.OrderLaws.{apply_all-behind, before-first, before-second, one-value, ordered-opposites}
 use Rattle.lr_base.specs.Orders.{AgreeWhereOrdered, AreUpdates, HasEachOnce, HasSameUpdates, Keyed, apply_all}
@@ -14,7 +15,7 @@ use Rattle.lr_graph.specs.Closed.{Each, HasApartSpots, HasOlderCauses, IsAmong, 
 use Rattle.lr_graph.specs.Graph.{Acceptance, first_facts, has_call, ready, value}
 use Rattle.lr_graph.specs.Legal.{IsLegal}
 use Rattle.lr_graph.specs.Orderings.{FollowsCauses, IsOrderOf, everything}
-use Rattle.lr_graph.specs.Runs.{IsEventOf, first_run, history_of, run_after}
+use Rattle.lr_graph.specs.Runs.{first_run, history_of, run_after}
 use Rattle.lr_graph.specs.Sets.{SpotSet, same_spot}
 use Rattle.lr_graph.proofs.Law.{history-events, made-legal, one-history, same-after, steps-made}
 use Rattle.lr_graph.proofs.Members.{among-filter, among-left, among-right, each-at, each-from, each-map, filter-each}

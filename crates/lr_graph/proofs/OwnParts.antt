@@ -1,7 +1,7 @@
 -- What a message itself does at a replica is the same in the graph and by the rules.
 use Rattle.std.proofs.Common.{◌≡◌, ◌≢◌, ℕ, suc, ◌+◌, ◌<◌, ◌^◌, Bool, true, false, cond, nat_lt, find, List, [], ◌∷◌, length, Option, Some, None, refl, sym, ap, ◌∙◌, subst, arith, true≢false, leb-true}
 use Rattle.std.specs.Option.{option_map}
-use Rattle.lr_base.specs.Kinds.{IsPlain, IsUpdate}
+use Rattle.lr_base.specs.Kinds.{IsUpdate, has_rules}
 use Rattle.lr_base.specs.Meaning.{Meaning}
 use Rattle.lr_base.specs.Rules.{CausalState, fresh_of, fresh_when, is_late, known_of, same_cid, stamp_of, taken_before}
 use Rattle.lr_base.specs.Stamps.{part, stamp_le}
@@ -74,7 +74,7 @@ module _ {Value Op : Type 0} (m : Meaning Value Op) (config : Config) (issued : 
 
   -- ---- an update
 
-  module _ (c : LabelledCall Op) (d : Call Op) (same : SameCall w.accepted c d) (is_issued : IsIssued config.clients issued (calls_in w) c) (update : IsUpdate (m.kind c.op)) (plain : IsPlain (m.kind c.op)) (t time : ℕ) where
+  module _ (c : LabelledCall Op) (d : Call Op) (same : SameCall w.accepted c d) (is_issued : IsIssued config.clients issued (calls_in w) c) (update : IsUpdate (m.kind c.op)) (plain : has_rules (m.kind c.op) ≡ true) (t time : ℕ) where
     abbrev Part : List Outcome → Ending Value Op → Type 0
     Part lines end = IsOwnPart m config issued w v i (came (UpdateCopy c t)) lines end
 

@@ -1,7 +1,7 @@
 -- What a message itself does at a replica: a query that is held, and an update that is accepted.
 use Rattle.std.proofs.Common.{◌≡◌, ◌≢◌, ℕ, ◌+◌, ◌<◌, Bool, true, false, cond, not, ◌&&◌, ◌||◌, ◌==◌, ◌⊎◌, inl, inr, find, List, [], ◌∷◌, ◌++◌, length, Option, Some, None, refl, sym, ap, ◌∙◌, subst, arith, eqb-true}
 use Rattle.std.proofs.lemmas.List.{append-nil}
-use Rattle.lr_base.specs.Kinds.{IsPlain, IsUpdate}
+use Rattle.lr_base.specs.Kinds.{IsUpdate, has_rules}
 use Rattle.lr_base.specs.Meaning.{Meaning}
 use Rattle.lr_base.specs.Rules.{CausalState, accepted, held_more, stamp_of, update_of_call}
 use Rattle.lr_base.specs.Stamps.{part}
@@ -94,7 +94,7 @@ module _ {Value Op : Type 0} (m : Meaning Value Op) (config : Config) (issued : 
 module _ {Value Op : Type 0} (m : Meaning Value Op) (config : Config) (issued : Cid → Option (LabelledCall Op)) (w : Facts Op) (v : RunState Value Op) (shared : IsShared m config issued w v.fronts v.posted)
     (i : ℕ) (here : i < config.replicas) (state : CausalState Value Op) (ok : IsReplicaAt m config w.accepted (w.received i) (logged config w i) (w.kept i) (w.held i) state)
     (others : (j : ℕ) → j ≢ i → j < config.replicas → IsTied m config w v.replicas j)
-    (c : LabelledCall Op) (d : Call Op) (same : SameCall w.accepted c d) (is_issued : IsIssued config.clients issued (calls_in w) c) (update : IsUpdate (m.kind c.op)) (plain : IsPlain (m.kind c.op)) where
+    (c : LabelledCall Op) (d : Call Op) (same : SameCall w.accepted c d) (is_issued : IsIssued config.clients issued (calls_in w) c) (update : IsUpdate (m.kind c.op)) (plain : has_rules (m.kind c.op) ≡ true) where
   abbrev l : List (Acceptance Op)
   l = w.accepted
 

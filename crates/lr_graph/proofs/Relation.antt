@@ -3,7 +3,7 @@ use Rattle.std.proofs.Common.{◌≡◌, ◌<◌, ◌≤◌, ◌+◌, ◌==◌, 
 use Rattle.std.specs.List.{slice_get}
 use Rattle.std.specs.Option.{option_map}
 use Rattle.lr_base.specs.Fronts.{FrontState}
-use Rattle.lr_base.specs.Kinds.{IsPlain, IsUpdate}
+use Rattle.lr_base.specs.Kinds.{IsUpdate, has_rules}
 use Rattle.lr_base.specs.Meaning.{Meaning}
 use Rattle.lr_base.specs.Replicas.{ReplicaState}
 use Rattle.lr_base.specs.Rules.{CausalState, same_cid}
@@ -67,7 +67,7 @@ pub record SameGossip {Op : Type 0} (replicas : ℕ) (l : List (Acceptance Op)) 
 
 -- a message of the rules carries what this one of the graph does
 pub data SameCarried {Value Op : Type 0} (m : Meaning Value Op) (config : Config) (l : List (Acceptance Op)) (received : ℕ → SpotSet) (issued : Cid → Option (LabelledCall Op)) (calls : ℕ → ℕ) : Carried Op → Message Op → Type 0 where
-  same_update : (c : LabelledCall Op) (d : Call Op) (t time : ℕ) → SameCall l c d → t ≡ time → IsIssued config.clients issued calls c → IsUpdate (m.kind c.op) → IsPlain (m.kind c.op) → SameCarried m config l received issued calls (UpdateCopy c t) (Update d time)
+  same_update : (c : LabelledCall Op) (d : Call Op) (t time : ℕ) → SameCall l c d → t ≡ time → IsIssued config.clients issued calls c → IsUpdate (m.kind c.op) → has_rules (m.kind c.op) ≡ true → SameCarried m config l received issued calls (UpdateCopy c t) (Update d time)
   same_query : (c : LabelledCall Op) (d : Call Op) → SameCall l c d → IsIssued config.clients issued calls c → SameCarried m config l received issued calls (QueryCopy c) (Query d)
   same_done : (cid other : Cid) (names : SpotSet) (spot : Spot) (stamp : List ℕ) → cid ≡ other → Names stamp names → IsSetOf l names → SameCarried m config l received issued calls (DoneReply cid names) (Done other spot stamp)
   same_answer : (cid other : Cid) (names : SpotSet) (text stamp : List ℕ) → cid ≡ other → Names stamp names → IsSetOf l names → SameCarried m config l received issued calls (AnswerReply cid names) (Answer other text stamp)
@@ -127,7 +127,7 @@ pub record IsAcceptance {Value Op : Type 0} (m : Meaning Value Op) (config : Con
   pub client : a.cid.client < config.clients
   pub place : a.spot.place < config.replicas
   pub update : IsUpdate (m.kind a.op)
-  pub plain : IsPlain (m.kind a.op)
+  pub plain : has_rules (m.kind a.op) ≡ true
 
 -- how many calls each front end made
 abbrev pub calls_in : {Op : Type 0} → Facts Op → ℕ → ℕ

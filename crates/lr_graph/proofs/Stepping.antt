@@ -3,7 +3,7 @@ use Rattle.std.proofs.Common.{◌≡◌, ◌≢◌, ℕ, ◌+◌, ◌<◌, true,
 use Rattle.std.proofs.lemmas.List.{append_assoc, length-append}
 use Rattle.std.proofs.lemmas.Option.{slice_get_within}
 use Rattle.std.specs.List.{slice_get}
-use Rattle.lr_base.specs.Kinds.{IsPlain, are_ordered}
+use Rattle.lr_base.specs.Kinds.{are_ordered, has_rules, is_forced, is_immediate}
 use Rattle.lr_base.specs.Meaning.{Lawful, Meaning}
 use Rattle.lr_base.specs.Replicas.{ReplicaState}
 use Rattle.lr_base.specs.Rules.{CausalState, applied}
@@ -26,7 +26,7 @@ use Rattle.lr_graph.proofs.Places.{slice-set_other, slice-set_same}
 use Rattle.lr_graph.proofs.Posting.{act_lines-append, act_posts-append}
 use Rattle.lr_graph.proofs.Relation.{IsAcceptance, IsReplicaAt, IsSame, IsShared, IsTied, calls_in}
 use Rattle.lr_graph.proofs.Settling.{settled}
-use Rattle.lr_graph.proofs.Tests.{equal-or-not, never}
+use Rattle.lr_graph.proofs.Tests.{and-left, and-right, equal-or-not, never, not-false}
 use Rattle.lr_graph.proofs.Ties.{HasApplied, HasOneCall, IsFree}
 
 -- ---- tables by number
@@ -62,8 +62,14 @@ all-free m config issued calls l each = record {
   unordered = each-map _ _ l (λ a h. each-map _ _ l (λ b k. plain (m.kind a.op) (m.kind b.op) h.plain k.plain) each) each;
 }
   where
-    plain : (a b : Kind) → IsPlain a → IsPlain b → are_ordered a b ≡ false
-    plain a b h k = rw (h.not_immediate, k.not_immediate, h.not_forced) refl
+    not_immediate : (a : Kind) → has_rules a ≡ true → is_immediate a ≡ false
+    not_immediate a h = not-false (is_immediate a) (and-right (not (is_forced a)) _ h)
+
+    not_forced : (a : Kind) → has_rules a ≡ true → is_forced a ≡ false
+    not_forced a h = not-false (is_forced a) (and-left (not (is_forced a)) _ h)
+
+    plain : (a b : Kind) → has_rules a ≡ true → has_rules b ≡ true → are_ordered a b ≡ false
+    plain a b h k = rw (not_immediate a h, not_immediate b k, not_forced a h) refl
 
 -- ---- a step of replica i
 

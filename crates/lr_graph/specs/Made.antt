@@ -1,10 +1,11 @@
 -- Histories that the actors of a run make, each by its own rules.
 use Rattle.std.specs.Prelude.{◌≡◌, List, [], ◌∷◌}
+use Rattle.lr_base.specs.Events.{IsEventOf}
 use Rattle.lr_base.specs.Meaning.{Meaning}
 use Rattle.lr_base.specs.declared.events.Event.{Event}
 use Rattle.lr_base.specs.declared.events.Step.{Step}
 use Rattle.lr_base.specs.declared.names.Config.{Config}
-use Rattle.lr_graph.specs.Runs.{IsEventOf, RunState, first_run, stepped}
+use Rattle.lr_graph.specs.Runs.{RunState, first_run, stepped}
 
 -- the step that an event makes in a run: the event with the outcomes that the rules of the actor that makes it give
 abbrev pub made_step : {Value Op : Type 0} → Meaning Value Op → RunState Value Op → Event Op → Step Op

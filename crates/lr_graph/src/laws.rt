@@ -1,5 +1,6 @@
 //! Laws about legal histories: each function does nothing, and its contract is the law.
 ghost use Rattle.std.specs.Prelude.{◌≡◌, ◌++◌, ◌∷◌, ℕ, [], List, filter, map};
+ghost use Rattle.lr_base.specs.Events.{IsEventOf};
 ghost use Rattle.lr_graph.specs.Answers.{CallsOp, HasPrintableAnswer};
 ghost use Rattle.lr_graph.specs.Central.{IsCentral, facts_after};
 ghost use Rattle.lr_graph.specs.Closed.{Each, IsClosed, IsSound, IsWithin};
@@ -7,7 +8,7 @@ ghost use Rattle.lr_graph.specs.Graph.{Acceptance, first_facts, ready, value};
 ghost use Rattle.lr_graph.specs.Legal.{IsLegal};
 ghost use Rattle.lr_graph.specs.Made.{IsMade, made_step};
 ghost use Rattle.lr_graph.specs.Orderings.{IsOrderOf, everything};
-ghost use Rattle.lr_graph.specs.Runs.{IsEventOf, RunState, first_run, history_of, run_after, stepped};
+ghost use Rattle.lr_graph.specs.Runs.{RunState, first_run, history_of, run_after, stepped};
 ghost use Rattle.lr_graph.specs.Sets.{SpotSet};
 
 use lr_base::lr_service::Service;
