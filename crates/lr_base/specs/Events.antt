@@ -6,7 +6,8 @@ use Rattle.lr_base.specs.declared.events.Event.{Event}
 use Rattle.lr_base.specs.declared.events.Event.TheVariants.{Call, Deliver, Gossip, Show}
 use Rattle.lr_base.specs.declared.names.Config.{Config}
 
--- an event names a client and replicas that there are, gossip names two of them, and runs have rules for the kind of what is called
+-- an event names a client and replicas that there are, gossip names two of them,
+-- and runs have rules for the kind of what is called
 abbrev pub IsEventOf : {Value Op : Type 0} → Meaning Value Op → Config → Event Op → Type 0
 IsEventOf m config (Call client replica reading op) =
     (client < config.clients) × (replica < config.replicas) × (has_rules (m.kind op) ≡ true)

@@ -1,5 +1,6 @@
 -- What contracts see of a front end, and what its commands do.
-use Rattle.std.specs.Prelude.{◌+◌, ℕ, Bool, true, false, max, replicate, List, [], ◌∷◌, Option, Some, None, if◌then◌else◌}
+use Rattle.std.specs.Prelude.{◌+◌, ℕ, max, Bool, true, false, if◌then◌else◌}
+use Rattle.std.specs.Prelude.{List, [], ◌∷◌, replicate, Option, Some, None}
 use Rattle.lr_base.specs.Rules.{same_cid}
 use Rattle.lr_base.specs.Stamps.{join}
 use Rattle.lr_base.specs.declared.acts.Act.{Act}
@@ -35,12 +36,17 @@ next_cid front = record { client = front.client; seq = front.calls + 1 }
 
 -- a front end that has made its next call, at a clock reading
 abbrev pub called : ℕ → FrontState → FrontState
-called reading front = record front { clock = max front.clock reading; calls = front.calls + 1; open_call = Some (next_cid front) }
+called reading front = record front {
+  clock = max front.clock reading;
+  calls = front.calls + 1;
+  open_call = Some (next_cid front);
+}
 
 -- the message of that call: a query goes without a time, an update with that of the clock
 abbrev pub message_of : {Op : Type 0} → Kind → FrontState → ℕ → Op → Message Op
 message_of AQuery front reading op = Query (record { cid = next_cid front; prev = front.label; op = op })
-message_of _ front reading op = Update (record { cid = next_cid front; prev = front.label; op = op }) (max front.clock reading)
+message_of _ front reading op =
+    Update (record { cid = next_cid front; prev = front.label; op = op }) (max front.clock reading)
 
 -- whether this call is open
 abbrev pub is_open : Option Cid → Cid → Bool
@@ -59,13 +65,17 @@ pub record FrontEnding (Op : Type 0) : Type 0 where
   pub front : FrontState
   pub acts : List (Act Op)
 
--- a front end is called: its reading counts in any case, and its call is sent if none is open and its numbers aren't used up
+-- a front end is called: its reading counts in any case,
+-- and its call is sent if none is open and its numbers aren't used up
 abbrev pub front_on_call : {Op : Type 0} → Kind → Actor → ℕ → Op → FrontState → Option Cid → Bool → FrontEnding Op
 front_on_call kind to reading op front (Some cid) worn = record {
   front = clock_read reading front;
   acts = Say (Refuse (Unfinished cid)) ∷ [];
 }
-front_on_call kind to reading op front None true = record { front = clock_read reading front; acts = Say (Refuse Worn) ∷ [] }
+front_on_call kind to reading op front None true = record {
+  front = clock_read reading front;
+  acts = Say (Refuse Worn) ∷ [];
+}
 front_on_call kind to reading op front None false = record {
   front = called reading front;
   acts = Send to (message_of kind front reading op) ∷ [];
@@ -78,7 +88,10 @@ reply_acts cid false = Say (Stale cid) ∷ []
 
 -- a front end takes the reply to a call
 abbrev pub front_on_reply : {Op : Type 0} → Cid → List ℕ → FrontState → FrontEnding Op
-front_on_reply cid stamp front = record { front = reply_taken cid stamp front; acts = reply_acts cid (is_open front.open_call cid) }
+front_on_reply cid stamp front = record {
+  front = reply_taken cid stamp front;
+  acts = reply_acts cid (is_open front.open_call cid);
+}
 
 -- a message comes to a front end, where just replies have a rule
 abbrev pub front_on_message : {Op : Type 0} → Message Op → FrontState → FrontEnding Op

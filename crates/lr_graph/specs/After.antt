@@ -1,43 +1,56 @@
 -- How the facts of a history change: by each event, and by each line that is printed of it.
-use Rattle.std.specs.Prelude.{ℕ, suc, Bool, true, false, ◌^◌, ◌==◌, ◌++◌, ◌∷◌, [], max, not, filter, find, List, Option, Some, None}
+use Rattle.std.specs.Prelude.{ℕ, suc, ◌^◌, ◌==◌, max, Bool, true, false, not, Option, Some, None}
+use Rattle.std.specs.Prelude.{List, [], ◌∷◌, ◌++◌, filter, find}
 use Rattle.lr_base.specs.declared.events.Event.{Event}
 use Rattle.lr_base.specs.declared.events.Event.TheVariants.{Call, Deliver, Gossip as GossipEvent, Show}
 use Rattle.lr_base.specs.declared.events.Outcome.{Outcome}
-use Rattle.lr_base.specs.declared.events.Outcome.TheVariants.{Send, Accept, Hold, Take, Got, Stale, NoMessage, Refuse, State}
+use Rattle.lr_base.specs.declared.events.Outcome.TheVariants.{Send, Accept, Hold, Take, Got, Stale}
+use Rattle.lr_base.specs.declared.events.Outcome.TheVariants.{NoMessage, Refuse, State}
 use Rattle.lr_base.specs.declared.events.Sent.{Sent}
 use Rattle.lr_base.specs.declared.events.Sent.TheVariants.{Update, Query, Done, Answer, Gossip}
 use Rattle.lr_base.specs.declared.events.Step.{Step}
 use Rattle.lr_base.specs.declared.names.Actor.{Actor}
 use Rattle.lr_base.specs.declared.names.Actor.TheVariants.{Client, Replica}
 use Rattle.lr_base.specs.declared.names.Spot.{Spot}
-use Rattle.lr_graph.specs.Graph.{Carried, Facts, FrontFacts, LabelledCall, SentMessage, UpdateCopy, QueryCopy, DoneReply, AnswerReply, GossipOf, Blank, below_of, is_within, keep_new, ready}
+use Rattle.lr_graph.specs.Graph.{Carried, Facts, FrontFacts, LabelledCall, SentMessage}
+use Rattle.lr_graph.specs.Graph.{UpdateCopy, QueryCopy, DoneReply, AnswerReply, GossipOf, Blank}
+use Rattle.lr_graph.specs.Graph.{below_of, is_within, keep_new, ready}
 use Rattle.lr_graph.specs.Sets.{SpotSet, nothing, only, put_at, ◌∪◌}
 
 -- the next call of a front end, with the label that it has
 abbrev pub next_call : {Op : Type 0} → ℕ → FrontFacts Op → Op → LabelledCall Op
-next_call client front op = record { cid = record { client = client; seq = suc front.calls }; op = op; label = front.label }
+next_call client front op = record {
+  cid = record { client = client; seq = suc front.calls };
+  op = op;
+  label = front.label;
+}
 
 -- a call's reading counts in any case, and the call opens where none is open and a number is left
-abbrev pub front_called : {Op : Type 0} → ℕ → ℕ → Op → FrontFacts Op → Option (LabelledCall Op) → Bool → FrontFacts Op
-front_called client reading op front (Some call) worn = record front { clock = max front.clock reading }
-front_called client reading op front None true = record front { clock = max front.clock reading }
-front_called client reading op front None false = record front { clock = max front.clock reading; calls = suc front.calls; open_call = Some (next_call client front op) }
+abbrev pub call_read : {Op : Type 0} → ℕ → ℕ → Op → FrontFacts Op → Option (LabelledCall Op) → Bool → FrontFacts Op
+call_read client reading op front (Some call) worn = record front { clock = max front.clock reading }
+call_read client reading op front None true = record front { clock = max front.clock reading }
+call_read client reading op front None false = record front {
+  clock = max front.clock reading;
+  calls = suc front.calls;
+  open_call = Some (next_call client front op);
+}
 
 -- the facts after an event, before its lines are read: a call is made
 abbrev pub event_read : {Op : Type 0} → Facts Op → Event Op → Facts Op
 event_read w (Call client replica reading op) =
     let front = w.front client in
-    record w { front = put_at client (front_called client reading op front front.open_call (front.calls == 2 ^ 62)) w.front }
+    let next = call_read client reading op front front.open_call (front.calls == 2 ^ 62) in
+    record w { front = put_at client next w.front }
 event_read w (Deliver message) = w
 event_read w (GossipEvent from to) = w
 event_read w (Show replica) = w
 
 -- the message that an event delivers
-abbrev pub delivered : {Op : Type 0} → Facts Op → Event Op → Option (SentMessage Op)
-delivered w (Call client replica reading op) = None
-delivered w (Deliver message) = find (λ x. x.number == message) w.messages
-delivered w (GossipEvent from to) = None
-delivered w (Show replica) = None
+abbrev pub delivery_of : {Op : Type 0} → Facts Op → Event Op → Option (SentMessage Op)
+delivery_of w (Call client replica reading op) = None
+delivery_of w (Deliver message) = find (λ x. x.number == message) w.messages
+delivery_of w (GossipEvent from to) = None
+delivery_of w (Show replica) = None
 
 -- the replica that an actor is
 abbrev pub replica_of : Actor → Option ℕ
@@ -52,7 +65,7 @@ receiving (Some x) = replica_of x.to
 -- the replica that an event is a step of, if it is a replica's
 abbrev pub stepping : {Op : Type 0} → Facts Op → Event Op → Option ℕ
 stepping w (Call client replica reading op) = None
-stepping w (Deliver message) = receiving (delivered w (Deliver message))
+stepping w (Deliver message) = receiving (delivery_of w (Deliver message))
 stepping w (GossipEvent from to) = Some from
 stepping w (Show replica) = None
 
@@ -75,7 +88,7 @@ abbrev pub received_at : {Op : Type 0} → Facts Op → Actor → SpotSet
 received_at w (Replica i) = w.received i
 received_at w (Client client) = nothing
 
--- what a message carries that is sent now: the open call of its client, what its reply stands for, or what its replica received
+-- what a message carries that is sent now: its client's open call, what a reply stands for, or what a replica received
 abbrev pub carried : {Op : Type 0} → Facts Op → Actor → Sent → Carried Op
 carried w from (Update cid time) = copy_of (w.front cid.client).open_call (λ call. UpdateCopy call time)
 carried w from (Query cid) = copy_of (w.front cid.client).open_call QueryCopy
@@ -118,13 +131,15 @@ take_read w (Replica i) (GossipOf names) = record w { received = put_at i (w.rec
 take_read w _ _ = w
 
 -- the facts where a message came, if one did
-abbrev pub with_message : {Op : Type 0} → Facts Op → Option (SentMessage Op) → (Actor → Carried Op → Facts Op) → Facts Op
+abbrev pub with_message : {Op : Type 0} → Facts Op → Option (SentMessage Op)
+    → (Actor → Carried Op → Facts Op) → Facts Op
 with_message w None change = w
 with_message w (Some x) change = change x.to x.what
 
 -- the facts after a line: all but these five change nothing
 abbrev pub line_read : {Op : Type 0} → Option (SentMessage Op) → Facts Op → Outcome → Facts Op
-line_read x w (Send number from to what) = record w { messages = record { number = number; from = from; to = to; what = carried w from what } ∷ w.messages }
+line_read x w (Send number from to what) =
+    record w { messages = record { number = number; from = from; to = to; what = carried w from what } ∷ w.messages }
 line_read x w (Accept spot cid) = with_message w x (accept_read w spot)
 line_read x w (Hold cid) = with_message w x (hold_read w)
 line_read x w (Take count) = with_message w x (take_read w)
@@ -140,8 +155,8 @@ lines_read x w [] = w
 lines_read x w (line ∷ lines) = lines_read x (line_read x w line) lines
 
 -- at the end of a replica's step its answered queries are held no more, and it keeps a spot of each call that got ready
-abbrev pub replica_ended : {Op : Type 0} → Facts Op → ℕ → Facts Op
-replica_ended w i = record w {
+abbrev pub end_read : {Op : Type 0} → Facts Op → ℕ → Facts Op
+end_read w i = record w {
   held = put_at i (filter (λ call. not (is_within w.accepted call.label (w.received i))) (w.held i)) w.held;
   kept = put_at i (keep_new w.accepted (ready w.accepted (w.received i)) w.accepted (w.kept i)) w.kept;
 }
@@ -149,9 +164,9 @@ replica_ended w i = record w {
 -- the facts at the end of a step of this replica, if it is a replica's
 abbrev pub step_ended : {Op : Type 0} → Option ℕ → Facts Op → Facts Op
 step_ended None w = w
-step_ended (Some i) w = replica_ended w i
+step_ended (Some i) w = end_read w i
 
 -- the facts after a step
 abbrev pub after : {Op : Type 0} → Facts Op → Step Op → Facts Op
 after w step =
-    step_ended (stepping w step.event) (lines_read (delivered w step.event) (event_read w step.event) step.outcomes)
+    step_ended (stepping w step.event) (lines_read (delivery_of w step.event) (event_read w step.event) step.outcomes)

@@ -34,7 +34,10 @@ HasApartSpots (a ∷ older) = Each (λ b. same_spot b.spot a.spot ≡ false) old
 -- each acceptance is below itself, and its causes were accepted before it
 abbrev pub HasOlderCauses : {Op : Type 0} → List (Acceptance Op) → Type 0
 HasOlderCauses [] = Unit {0}
-HasOlderCauses (a ∷ older) = (a.below a.spot ≡ true) × ((spot : Spot) → causes a spot ≡ true → IsAccepted older spot) × HasOlderCauses older
+HasOlderCauses (a ∷ older) =
+    (a.below a.spot ≡ true)
+    × ((spot : Spot) → causes a spot ≡ true → IsAccepted older spot)
+    × HasOlderCauses older
 
 -- what holds of the acceptances of every history
 pub record IsSound {Op : Type 0} (accepted : List (Acceptance Op)) : Type 0 where

@@ -1,5 +1,6 @@
 -- The graph of updates: the facts that a history gives, and what follows from them.
-use Rattle.std.specs.Prelude.{ℕ, zero, suc, Bool, ◌&&◌, ◌||◌, not, ◌==◌, is_some, if◌then◌else◌, List, [], ◌∷◌, ◌++◌, Option, Some, None}
+use Rattle.std.specs.Prelude.{ℕ, zero, suc, ◌==◌, Bool, ◌&&◌, ◌||◌, not, if◌then◌else◌}
+use Rattle.std.specs.Prelude.{List, [], ◌∷◌, ◌++◌, Option, Some, None, is_some}
 use Rattle.std.specs.List.{list_any, list_all}
 use Rattle.lr_base.specs.Meaning.{Meaning}
 use Rattle.lr_base.specs.Rules.{same_cid}
@@ -75,7 +76,8 @@ is_within accepted x y = list_all (λ a. not (x a.spot) || y a.spot) accepted
 
 -- the acceptances that are received with all their causes
 abbrev pub ready : {Op : Type 0} → List (Acceptance Op) → SpotSet → SpotSet
-ready accepted received spot = list_any (λ a. same_spot spot a.spot && (received a.spot && is_within accepted a.below received)) accepted
+ready accepted received spot =
+    list_any (λ a. same_spot spot a.spot && (received a.spot && is_within accepted a.below received)) accepted
 
 -- the causes of the acceptance at this spot, and itself
 abbrev pub below_of : {Op : Type 0} → List (Acceptance Op) → Spot → SpotSet
@@ -86,7 +88,8 @@ below_of (a ∷ older) spot = if same_spot spot a.spot then a.below else below_o
 abbrev pub has_call : {Op : Type 0} → List (Acceptance Op) → SpotSet → Cid → Bool
 has_call accepted set cid = list_any (λ a. set a.spot && same_cid cid a.cid) accepted
 
--- the value after the acceptances of a set: each is applied in the order of making, but for those of a call that was applied before
+-- the value after the acceptances of a set: each is applied in the order of making,
+-- but for those of a call that was applied before
 abbrev pub value : {Value Op : Type 0} → Meaning Value Op → List (Acceptance Op) → SpotSet → Value
 value m [] set = m.start
 value m (a ∷ older) set =
@@ -103,7 +106,8 @@ size_of accepted set = how_many (λ a. set a.spot) accepted
 -- how many acceptances of a set there are at each of the first places
 abbrev pub counts : {Op : Type 0} → List (Acceptance Op) → SpotSet → ℕ → List ℕ
 counts accepted set zero = []
-counts accepted set (suc place) = counts accepted set place ++ how_many (λ a. (a.spot.place == place) && set a.spot) accepted ∷ []
+counts accepted set (suc place) =
+    counts accepted set place ++ how_many (λ a. (a.spot.place == place) && set a.spot) accepted ∷ []
 
 -- the spots of a set, ascending
 abbrev pub spots_of : {Op : Type 0} → List (Acceptance Op) → SpotSet → List Spot
@@ -118,7 +122,10 @@ calls_of (a ∷ older) set = if set a.spot then put_call a.cid (calls_of older s
 -- the least spot that a set has of a call
 abbrev pub least_spot : {Op : Type 0} → List (Acceptance Op) → SpotSet → Cid → Option Spot
 least_spot [] set cid = None
-least_spot (a ∷ older) set cid = if set a.spot && same_cid cid a.cid then lesser a.spot (least_spot older set cid) else least_spot older set cid
+least_spot (a ∷ older) set cid =
+    if set a.spot && same_cid cid a.cid
+    then lesser a.spot (least_spot older set cid)
+    else least_spot older set cid
 
 -- the spot that is kept of a call
 abbrev pub kept_spot : List Kept → Cid → Option Spot

@@ -1,12 +1,14 @@
 -- Which outcomes an event may have, and which histories are legal.
-use Rattle.std.specs.Prelude.{◌≡◌, ◌^◌, ℕ, suc, Bool, true, false, ◌&&◌, not, ◌==◌, nat_lt, max, map, length, if◌then◌else◌, List, [], ◌∷◌, ◌++◌, Option, Some, None}
+use Rattle.std.specs.Prelude.{◌≡◌, ◌^◌, ℕ, suc, ◌==◌, nat_lt, max, Bool, true, false, ◌&&◌, not, if◌then◌else◌}
+use Rattle.std.specs.Prelude.{List, [], ◌∷◌, ◌++◌, length, map, Option, Some, None}
 use Rattle.lr_base.specs.Kinds.{is_query}
 use Rattle.lr_base.specs.Meaning.{Meaning}
 use Rattle.lr_base.specs.Rules.{same_cid}
 use Rattle.lr_base.specs.declared.events.Event.{Event}
 use Rattle.lr_base.specs.declared.events.Event.TheVariants.{Call, Deliver, Gossip as GossipEvent, Show}
 use Rattle.lr_base.specs.declared.events.Outcome.{Outcome}
-use Rattle.lr_base.specs.declared.events.Outcome.TheVariants.{Send, Accept, Hold, Take, Got, Stale, NoMessage, Refuse, State}
+use Rattle.lr_base.specs.declared.events.Outcome.TheVariants.{Send, Accept, Hold, Take, Got, Stale}
+use Rattle.lr_base.specs.declared.events.Outcome.TheVariants.{NoMessage, Refuse, State}
 use Rattle.lr_base.specs.declared.events.Refusal.TheVariants.{Again, FullLog, FullHeld, Unfinished, Worn}
 use Rattle.lr_base.specs.declared.events.Sent.TheVariants.{Update, Query, Done, Answer, Gossip}
 use Rattle.lr_base.specs.declared.events.StateLine.{StateLine}
@@ -16,8 +18,11 @@ use Rattle.lr_base.specs.declared.names.Actor.TheVariants.{Client, Replica}
 use Rattle.lr_base.specs.declared.names.Cid.{Cid}
 use Rattle.lr_base.specs.declared.names.Config.{Config}
 use Rattle.lr_base.specs.declared.names.Spot.{Spot}
-use Rattle.lr_graph.specs.After.{after, delivered, event_read, lines_read, next_call, stepping}
-use Rattle.lr_graph.specs.Graph.{Carried, Facts, LabelledCall, SentMessage, UpdateCopy, QueryCopy, DoneReply, AnswerReply, GossipOf, calls_of, counts, first_facts, is_within, kept_spot, least_spot, made, ready, size_of, spots_of, value}
+use Rattle.lr_graph.specs.After.{after, delivery_of, event_read, lines_read, next_call, stepping}
+use Rattle.lr_graph.specs.Graph.{Carried, Facts, LabelledCall, SentMessage, first_facts}
+use Rattle.lr_graph.specs.Graph.{UpdateCopy, QueryCopy, DoneReply, AnswerReply, GossipOf}
+use Rattle.lr_graph.specs.Graph.{calls_of, counts, is_within, kept_spot, least_spot, made}
+use Rattle.lr_graph.specs.Graph.{ready, size_of, spots_of, value}
 use Rattle.lr_graph.specs.Sets.{SpotSet}
 
 -- the number of the next message
@@ -34,18 +39,21 @@ taken_at config w i cid (Some spot) = Some spot
 taken_at config w i cid None = least_spot w.accepted (logged config w i) cid
 
 -- a call is sent where none is open and a number is left
-abbrev pub call_lines : {Value Op : Type 0} → Meaning Value Op → Facts Op → ℕ → ℕ → ℕ → Op → Option (LabelledCall Op) → Bool → List Outcome
+abbrev pub call_lines : {Value Op : Type 0} → Meaning Value Op → Facts Op → ℕ → ℕ → ℕ → Op
+    → Option (LabelledCall Op) → Bool → List Outcome
 call_lines m w client replica clock op (Some call) worn = Refuse (Unfinished call.cid) ∷ []
 call_lines m w client replica clock op None true = Refuse Worn ∷ []
 call_lines m w client replica clock op None false =
     let cid = (next_call client (w.front client) op).cid in
-    Send (next_number w) (Client client) (Replica replica) (if is_query (m.kind op) then Query cid else Update cid clock) ∷ []
+    let what = if is_query (m.kind op) then Query cid else Update cid clock in
+    Send (next_number w) (Client client) (Replica replica) what ∷ []
 
 -- the reply to an update
 abbrev pub done_line : {Op : Type 0} → Facts Op → ℕ → Cid → Spot → Outcome
 done_line w i cid spot = Send (next_number w) (Replica i) (Client cid.client) (Done cid spot)
 
--- a new update is refused where the log is full or the place's numbers are used up, and else takes the place's next spot
+-- a new update is refused where the log is full or the place's numbers are used up,
+-- and else takes the place's next spot
 abbrev pub accept_lines : {Op : Type 0} → Facts Op → ℕ → Cid → Bool → Bool → List Outcome
 accept_lines w i cid false number = Refuse FullLog ∷ []
 accept_lines w i cid true false = Refuse Worn ∷ []
@@ -62,10 +70,12 @@ update_lines config w i cid None =
 -- the answer to a query: what the service reads after just what is ready
 abbrev pub answer_line : {Value Op : Type 0} → Meaning Value Op → Facts Op → ℕ → ℕ → LabelledCall Op → Outcome
 answer_line m w number i call =
-    Send number (Replica i) (Client call.cid.client) (Answer call.cid (m.read (value m w.accepted (ready w.accepted (w.received i))) call.op))
+    let after = value m w.accepted (ready w.accepted (w.received i)) in
+    Send number (Replica i) (Client call.cid.client) (Answer call.cid (m.read after call.op))
 
 -- a query is answered where all that its label names is received, and else held while there is room
-abbrev pub query_lines : {Value Op : Type 0} → Meaning Value Op → Facts Op → ℕ → LabelledCall Op → Bool → Bool → List Outcome
+abbrev pub query_lines : {Value Op : Type 0} → Meaning Value Op → Facts Op → ℕ → LabelledCall Op → Bool → Bool
+    → List Outcome
 query_lines m w i call true room = answer_line m w (next_number w) i call ∷ []
 query_lines m w i call false true = Hold call.cid ∷ []
 query_lines m w i call false false = Refuse FullHeld ∷ []
@@ -80,22 +90,26 @@ abbrev pub take_line : {Op : Type 0} → Facts Op → ℕ → SpotSet → Outcom
 take_line w i names = Take (size_of w.accepted (λ spot. names spot && not (w.received i spot)))
 
 -- a message comes to an actor: what has no rule there changes nothing
-abbrev pub message_lines : {Value Op : Type 0} → Meaning Value Op → Config → Facts Op → Actor → Carried Op → List Outcome
-message_lines m config w (Replica i) (UpdateCopy call time) = update_lines config w i call.cid (taken_at config w i call.cid (kept_spot (w.kept i) call.cid))
-message_lines m config w (Replica i) (QueryCopy call) = query_lines m w i call (is_within w.accepted call.label (w.received i)) (nat_lt (length (w.held i)) 1024)
+abbrev pub message_lines : {Value Op : Type 0} → Meaning Value Op → Config → Facts Op → Actor → Carried Op
+    → List Outcome
+message_lines m config w (Replica i) (UpdateCopy call time) =
+    update_lines config w i call.cid (taken_at config w i call.cid (kept_spot (w.kept i) call.cid))
+message_lines m config w (Replica i) (QueryCopy call) =
+    query_lines m w i call (is_within w.accepted call.label (w.received i)) (nat_lt (length (w.held i)) 1024)
 message_lines m config w (Replica i) (GossipOf names) = take_line w i names ∷ []
 message_lines m config w (Client client) (DoneReply cid names) = reply_line (w.front client).open_call cid ∷ []
 message_lines m config w (Client client) (AnswerReply cid names) = reply_line (w.front client).open_call cid ∷ []
 message_lines m config w _ _ = []
 
 -- a message is delivered, where one of this number was sent
-abbrev pub delivery_lines : {Value Op : Type 0} → Meaning Value Op → Config → Facts Op → ℕ → Option (SentMessage Op) → List Outcome
+abbrev pub delivery_lines : {Value Op : Type 0} → Meaning Value Op → Config → Facts Op → ℕ
+    → Option (SentMessage Op) → List Outcome
 delivery_lines m config w number None = NoMessage number ∷ []
 delivery_lines m config w number (Some x) = message_lines m config w x.to x.what
 
 -- what is printed of a replica
-abbrev pub state_line_of : {Op : Type 0} → Config → Facts Op → ℕ → StateLine
-state_line_of config w i = record {
+abbrev pub replica_line : {Op : Type 0} → Config → Facts Op → ℕ → StateLine
+replica_line config w i = record {
   replica = i;
   view = 0;
   clock = 0;
@@ -112,9 +126,9 @@ abbrev pub own_lines : {Value Op : Type 0} → Meaning Value Op → Config → F
 own_lines m config w (Call client replica reading op) =
     let front = w.front client in
     call_lines m w client replica (max front.clock reading) op front.open_call (front.calls == 2 ^ 62)
-own_lines m config w (Deliver message) = delivery_lines m config w message (delivered w (Deliver message))
+own_lines m config w (Deliver message) = delivery_lines m config w message (delivery_of w (Deliver message))
 own_lines m config w (GossipEvent from to) = Send (next_number w) (Replica from) (Replica to) Gossip ∷ []
-own_lines m config w (Show replica) = State (state_line_of config w replica) ∷ []
+own_lines m config w (Show replica) = State (replica_line config w replica) ∷ []
 
 -- each held query whose label is now received is answered, in the order of arrival
 abbrev pub answers : {Value Op : Type 0} → Meaning Value Op → Facts Op → ℕ → ℕ → List (LabelledCall Op) → List Outcome
@@ -133,12 +147,13 @@ answers_at m w (Some i) = answers m w (next_number w) i (w.held i)
 abbrev pub outcomes_of : {Value Op : Type 0} → Meaning Value Op → Config → Facts Op → Event Op → List Outcome
 outcomes_of m config w event =
     let own = own_lines m config w event in
-    own ++ answers_at m (lines_read (delivered w event) (event_read w event) own) (stepping w event)
+    own ++ answers_at m (lines_read (delivery_of w event) (event_read w event) own) (stepping w event)
 
 -- each step has just the outcomes that its event may have after the steps before it
 abbrev pub LegalFrom : {Value Op : Type 0} → Meaning Value Op → Config → Facts Op → List (Step Op) → Type 0
 LegalFrom m config w [] = Unit {0}
-LegalFrom m config w (step ∷ steps) = (step.outcomes ≡ outcomes_of m config w step.event) × LegalFrom m config (after w step) steps
+LegalFrom m config w (step ∷ steps) =
+    (step.outcomes ≡ outcomes_of m config w step.event) × LegalFrom m config (after w step) steps
 
 -- a legal history
 abbrev pub IsLegal : {Value Op : Type 0} → Meaning Value Op → Config → List (Step Op) → Type 0

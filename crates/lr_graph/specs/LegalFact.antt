@@ -9,11 +9,13 @@ use Rattle.lr_graph.specs.After.{after}
 use Rattle.lr_graph.specs.Graph.{Facts, first_facts}
 use Rattle.lr_graph.specs.Legal.{IsLegal, LegalFrom}
 
-pub LegalFrom-prop : {Value Op : Type 0} (m : Meaning Value Op) (config : Config) (w : Facts Op) (steps : List (Step Op)) → IsProp (LegalFrom m config w steps)
+pub LegalFrom-prop : {Value Op : Type 0} (m : Meaning Value Op) (config : Config) (w : Facts Op)
+    (steps : List (Step Op)) → IsProp (LegalFrom m config w steps)
 LegalFrom-prop m config w [] = Unit-prop
 LegalFrom-prop m config w (step ∷ steps) =
     ×_prop (Coded-set (coded_list outcome.the_row.coded) _ _) (LegalFrom-prop m config (after w step) steps)
 
 -- so what shows only that a history is legal in some way shows that it is legal
-pub IsLegal-prop : {Value Op : Type 0} (m : Meaning Value Op) (config : Config) (steps : List (Step Op)) → IsProp (IsLegal m config steps)
+pub IsLegal-prop : {Value Op : Type 0} (m : Meaning Value Op) (config : Config) (steps : List (Step Op))
+    → IsProp (IsLegal m config steps)
 IsLegal-prop m config steps = LegalFrom-prop m config first_facts steps

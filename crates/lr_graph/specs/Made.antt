@@ -11,8 +11,10 @@ use Rattle.lr_graph.specs.Runs.{RunState, first_run, stepped}
 abbrev pub made_step : {Value Op : Type 0} → Meaning Value Op → RunState Value Op → Event Op → Step Op
 made_step m run event = record { event = event; outcomes = (stepped m run event).outcomes }
 
--- these steps are made one after another from a run: each event is one of the run's, has just the outcomes that the rules of the actor that makes it give, and leaves the run as they say; and this is the run after the last one
-abbrev pub IsMadeFrom : {Value Op : Type 0} → Meaning Value Op → Config → RunState Value Op → List (Step Op) → RunState Value Op → Type 0
+-- these steps are made one after another from a run: each event is one of the run's, has just the outcomes that
+-- the rules of the actor that makes it give, and leaves the run as they say; and this is the run after the last one
+abbrev pub IsMadeFrom : {Value Op : Type 0} → Meaning Value Op → Config → RunState Value Op → List (Step Op)
+    → RunState Value Op → Type 0
 IsMadeFrom m config run [] after = run ≡ after
 IsMadeFrom m config run (step ∷ steps) after =
     IsEventOf m config step.event

@@ -1,7 +1,9 @@
 -- Orders of acceptances in which each follows its causes. An order has the newest first, as the graph's own list has.
-use Rattle.std.specs.Prelude.{◌≡◌, true, false, List, [], ◌∷◌}
+use Rattle.std.specs.Prelude.{◌≡◌, ℕ, true, false, List, [], ◌∷◌, filter}
+use Rattle.lr_base.specs.declared.events.Step.{Step}
+use Rattle.lr_graph.specs.Central.{facts_after}
 use Rattle.lr_graph.specs.Closed.{Each, HasApartSpots, IsAmong}
-use Rattle.lr_graph.specs.Graph.{Acceptance}
+use Rattle.lr_graph.specs.Graph.{Acceptance, first_facts, ready}
 use Rattle.lr_graph.specs.Sets.{SpotSet}
 
 -- the set of every spot
@@ -14,8 +16,21 @@ FollowsCauses [] = Unit {0}
 FollowsCauses (a ∷ older) = Each (λ b. b.below a.spot ≡ false) older × FollowsCauses older
 
 -- an order of the acceptances of a set: it has each of them, once, no others, and each follows its causes
-pub record IsOrderOf {Op : Type 0} (accepted : List (Acceptance Op)) (set : SpotSet) (order : List (Acceptance Op)) : Type 0 where
+pub record IsOrderOf {Op : Type 0} (accepted : List (Acceptance Op)) (set : SpotSet)
+    (order : List (Acceptance Op)) : Type 0 where
   pub apart : HasApartSpots order
   pub inside : Each (λ a. IsAmong a accepted × (set a.spot ≡ true)) order
   pub all : Each (λ a. set a.spot ≡ true → IsAmong a order) accepted
   pub follows : FollowsCauses order
+
+-- an order of what is ready at a replica after a history
+abbrev pub IsReadyOrder : {Op : Type 0} → List (Step Op) → ℕ → List (Acceptance Op) → Type 0
+IsReadyOrder steps i order =
+    let w = facts_after first_facts steps in
+    IsOrderOf w.accepted (ready w.accepted (w.received i)) order
+
+-- what is ready at a replica after a history, in the order of making
+abbrev pub ready_as_made : {Op : Type 0} → List (Step Op) → ℕ → List (Acceptance Op)
+ready_as_made steps i =
+    let w = facts_after first_facts steps in
+    filter (λ a. ready w.accepted (w.received i) a.spot) w.accepted

@@ -3,7 +3,8 @@ use Rattle.std.specs.Prelude.{ℕ, ◌^◌, Bool, ◌&&◌, min, map, List, [], 
 use Rattle.std.specs.List.{list_any}
 use Rattle.std.specs.Option.{option_map}
 use Rattle.lr_base.specs.declared.names.Spot.{Spot}
-use Rattle.lr_graph.specs.Graph.{Acceptance, AnswerReply, Blank, Carried, DoneReply, Facts, FrontFacts, GossipOf, LabelledCall, QueryCopy, SentMessage, UpdateCopy, is_within}
+use Rattle.lr_graph.specs.Graph.{Acceptance, Carried, Facts, FrontFacts, LabelledCall, SentMessage, is_within}
+use Rattle.lr_graph.specs.Graph.{UpdateCopy, QueryCopy, DoneReply, AnswerReply, GossipOf, Blank}
 use Rattle.lr_graph.specs.Sets.{SpotSet, nothing, same_spot}
 use Rattle.lr_graph.specs.Tables.{entry_at}
 use Rattle.lr_graph.specs.declared.facts.entry.Entry.{Entry}
@@ -37,12 +38,17 @@ load_of (Gossip names) = GossipOf (set_of names)
 load_of Nothing = Blank
 
 -- the message that is told
-abbrev pub message_of : {Op : Type 0} → SentCopy Op → SentMessage Op
-message_of x = record { number = x.number; from = x.from; to = x.to; what = load_of x.load }
+abbrev pub sent_message_of : {Op : Type 0} → SentCopy Op → SentMessage Op
+sent_message_of x = record { number = x.number; from = x.from; to = x.to; what = load_of x.load }
 
 -- the front end that is told: its calls are counted no further than to their most
 abbrev pub front_of : {Op : Type 0} → FrontNow Op → FrontFacts Op
-front_of front = record { label = set_of front.label; calls = min front.calls (2 ^ 62); clock = front.clock; open_call = option_map call_of front.open_call }
+front_of front = record {
+  label = set_of front.label;
+  calls = min front.calls (2 ^ 62);
+  clock = front.clock;
+  open_call = option_map call_of front.open_call;
+}
 
 -- the set that is told, or nothing
 abbrev pub set_or_nothing : Option (List Spot) → SpotSet
@@ -74,7 +80,7 @@ bare w = record w { kept = λ i. []; held = λ i. [] }
 abbrev pub told : {Op : Type 0} → Gathered Op → Facts Op
 told g = record {
   accepted = map acceptance_of g.accepted;
-  messages = map message_of g.messages;
+  messages = map sent_message_of g.messages;
   received = received_in g.received;
   kept = λ i. [];
   held = λ i. [];

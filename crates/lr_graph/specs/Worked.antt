@@ -5,6 +5,7 @@ use Rattle.lr_base.specs.declared.events.Event.TheVariants.{Call, Deliver, Show}
 use Rattle.lr_base.specs.declared.events.Outcome.{Outcome}
 use Rattle.lr_base.specs.declared.events.Outcome.TheVariants.{Send, Accept, Got, State}
 use Rattle.lr_base.specs.declared.events.Sent.TheVariants.{Update, Query, Done, Answer}
+use Rattle.lr_base.specs.declared.events.StateLine.{StateLine}
 use Rattle.lr_base.specs.declared.events.Step.{Step}
 use Rattle.lr_base.specs.declared.names.Actor.TheVariants.{Client, Replica}
 use Rattle.lr_base.specs.declared.names.Cid.{Cid}
@@ -33,6 +34,20 @@ first_spot = record { place = 0; number = 1 }
 abbrev step : Event TallyOp → List Outcome → Step TallyOp
 step event outcomes = record { event = event; outcomes = outcomes }
 
+-- the replica after both: it received one update, logs nothing, and executed the addition
+abbrev after_both : StateLine
+after_both = record {
+  replica = 0;
+  view = 0;
+  clock = 0;
+  received = 1 ∷ 0 ∷ [];
+  log = [];
+  acks = [];
+  calls = first_call ∷ [];
+  held = [];
+  marks = [];
+}
+
 -- an addition and then a read that has this answer, and what the front end prints of the addition's reply
 abbrev pub add_and_read : List Outcome → List ℕ → List (Step TallyOp)
 add_and_read got text =
@@ -42,5 +57,5 @@ add_and_read got text =
     ∷ step (Call 0 0 6 (Read (codes "x"))) (Send 3 (Client 0) (Replica 0) (Query second_call) ∷ [])
     ∷ step (Deliver 3) (Send 4 (Replica 0) (Client 0) (Answer second_call text) ∷ [])
     ∷ step (Deliver 4) (Got second_call ∷ [])
-    ∷ step (Show 0) (State (record { replica = 0; view = 0; clock = 0; received = 1 ∷ 0 ∷ []; log = []; acks = []; calls = first_call ∷ []; held = []; marks = [] }) ∷ [])
+    ∷ step (Show 0) (State after_both ∷ [])
     ∷ []

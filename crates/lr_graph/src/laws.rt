@@ -1,5 +1,5 @@
 //! Laws about legal histories: each function does nothing, and its contract is the law.
-ghost use Rattle.std.specs.Prelude.{◌≡◌, ◌++◌, ◌∷◌, ℕ, [], List, filter, map};
+ghost use Rattle.std.specs.Prelude.{◌≡◌, ◌++◌, ◌∷◌, ℕ, [], List, map};
 ghost use Rattle.lr_base.specs.Events.{IsEventOf};
 ghost use Rattle.lr_graph.specs.Answers.{CallsOp, HasPrintableAnswer};
 ghost use Rattle.lr_graph.specs.Central.{IsCentral, facts_after};
@@ -7,55 +7,81 @@ ghost use Rattle.lr_graph.specs.Closed.{Each, IsClosed, IsSound, IsWithin};
 ghost use Rattle.lr_graph.specs.Graph.{Acceptance, first_facts, ready, value};
 ghost use Rattle.lr_graph.specs.Legal.{IsLegal};
 ghost use Rattle.lr_graph.specs.Made.{IsMade, made_step};
-ghost use Rattle.lr_graph.specs.Orderings.{IsOrderOf, everything};
+ghost use Rattle.lr_graph.specs.Orderings.{IsReadyOrder, everything, ready_as_made};
 ghost use Rattle.lr_graph.specs.Runs.{RunState, first_run, history_of, run_after, stepped};
 ghost use Rattle.lr_graph.specs.Sets.{SpotSet};
+ghost use Rattle.lr_graph.specs.Slow.{value_after};
 
 use lr_base::lr_service::Service;
 use lr_base::{Config, Event, Step};
 
 /// A history that the actors of a run make, each by its own rules, is legal.
 pub fn what_is_made_is_legal<S: Service>()
-    ensures { (config : Config) (steps : List (Step S.Op)) (run : RunState S S.Op) → IsMade S.meaning config steps run → IsLegal S.meaning config steps }
+    ensures { (config : Config) (steps : List (Step S.Op)) (run : RunState S S.Op)
+        → IsMade S.meaning config steps run → IsLegal S.meaning config steps }
 {}
 
 /// Before any event no step is made, and after each step every event of the run makes one more.
 pub fn a_made_history_goes_on<S: Service>()
     ensures first { (config : Config) → IsMade S.meaning config [] (first_run S.meaning config) }
-    ensures next { (config : Config) (steps : List (Step S.Op)) (run : RunState S S.Op) (event : Event S.Op) → IsMade S.meaning config steps run → IsEventOf S.meaning config event → IsMade S.meaning config (steps ++ made_step S.meaning run event ∷ []) (stepped S.meaning run event).run }
+    ensures next { (config : Config) (steps : List (Step S.Op)) (run : RunState S S.Op) (event : Event S.Op)
+        → IsMade S.meaning config steps run → IsEventOf S.meaning config event
+        → IsMade S.meaning config (steps ++ made_step S.meaning run event ∷ []) (stepped S.meaning run event).run }
 {}
 
 /// Of each list of its events the actors of a run make a history, which has just these events and is legal.
 pub fn runs_are_legal<S: Service>()
-    ensures legal { (config : Config) (events : List (Event S.Op)) → Each (IsEventOf S.meaning config) events → IsLegal S.meaning config (history_of S.meaning config events) }
-    ensures events { (config : Config) (events : List (Event S.Op)) → map (λ step. step.event) (history_of S.meaning config events) ≡ events }
-    ensures made { (config : Config) (events : List (Event S.Op)) → Each (IsEventOf S.meaning config) events → IsMade S.meaning config (history_of S.meaning config events) (run_after S.meaning (first_run S.meaning config) events) }
+    ensures legal { (config : Config) (events : List (Event S.Op))
+        → Each (IsEventOf S.meaning config) events
+        → IsLegal S.meaning config (history_of S.meaning config events) }
+    ensures events { (config : Config) (events : List (Event S.Op))
+        → map (λ step. step.event) (history_of S.meaning config events) ≡ events }
+    ensures made { (config : Config) (events : List (Event S.Op))
+        → Each (IsEventOf S.meaning config) events
+        → IsMade S.meaning config (history_of S.meaning config events)
+        (run_after S.meaning (first_run S.meaning config) events) }
 {}
 
 /// Two legal histories of the same events are one.
 pub fn legal_histories_are_one<S: Service>()
-    ensures { (config : Config) (one other : List (Step S.Op)) → IsLegal S.meaning config one → IsLegal S.meaning config other → map (λ step. step.event) one ≡ map (λ step. step.event) other → one ≡ other }
+    ensures { (config : Config) (one other : List (Step S.Op))
+        → IsLegal S.meaning config one → IsLegal S.meaning config other
+        → map (λ step. step.event) one ≡ map (λ step. step.event) other → one ≡ other }
 {}
 
-/// After every history that the actors make, each stamp of the run stands for a set of acceptances, what a replica received is a prefix at each place, and the facts have as many messages as were sent.
+/// After every history that the actors make, each stamp of the run stands for a set of acceptances, what a replica
+/// received is a prefix at each place, and the facts have as many messages as were sent.
 pub fn stamps_stand_for_sets<S: Service>()
-    ensures { (config : Config) (steps : List (Step S.Op)) (run : RunState S S.Op) → IsMade S.meaning config steps run → IsCentral config (facts_after first_facts steps) run }
+    ensures { (config : Config) (steps : List (Step S.Op)) (run : RunState S S.Op)
+        → IsMade S.meaning config steps run → IsCentral config (facts_after first_facts steps) run }
 {}
 
 /// What is ready is received and has all its causes, and every such set is within it.
 pub fn ready_is_the_greatest_closed_set<S: Service>()
-    ensures received { (accepted : List (Acceptance S.Op)) (received : SpotSet) → IsWithin accepted (ready accepted received) received }
-    ensures closed { (accepted : List (Acceptance S.Op)) (received : SpotSet) → IsSound accepted → IsClosed accepted (ready accepted received) }
-    ensures greatest { (accepted : List (Acceptance S.Op)) (received set : SpotSet) → IsWithin accepted set received → IsClosed accepted set → IsWithin accepted set (ready accepted received) }
+    ensures received { (accepted : List (Acceptance S.Op)) (received : SpotSet)
+        → IsWithin accepted (ready accepted received) received }
+    ensures closed { (accepted : List (Acceptance S.Op)) (received : SpotSet)
+        → IsSound accepted → IsClosed accepted (ready accepted received) }
+    ensures greatest { (accepted : List (Acceptance S.Op)) (received set : SpotSet)
+        → IsWithin accepted set received → IsClosed accepted set
+        → IsWithin accepted set (ready accepted received) }
 {}
 
-/// Every order of what is ready at a replica in which each acceptance follows its causes gives the replica's value. What is ready in the order of making is such an order.
+/// Every order of what is ready at a replica in which each acceptance follows its causes gives the replica's value.
+/// What is ready in the order of making is such an order.
 pub fn every_order_gives_one_value<S: Service>()
-    ensures value { (config : Config) (steps : List (Step S.Op)) → Each (λ step. IsEventOf S.meaning config step.event) steps → IsLegal S.meaning config steps → (i : ℕ) (order : List (Acceptance S.Op)) → let w = facts_after first_facts steps in let at_hand = ready w.accepted (w.received i) in IsOrderOf w.accepted at_hand order → value S.meaning order everything ≡ value S.meaning w.accepted at_hand }
-    ensures own { (config : Config) (steps : List (Step S.Op)) → Each (λ step. IsEventOf S.meaning config step.event) steps → IsLegal S.meaning config steps → (i : ℕ) → let w = facts_after first_facts steps in let at_hand = ready w.accepted (w.received i) in IsOrderOf w.accepted at_hand (filter (λ a. at_hand a.spot) w.accepted) }
+    ensures value { (config : Config) (steps : List (Step S.Op))
+        → Each (λ step. IsEventOf S.meaning config step.event) steps → IsLegal S.meaning config steps
+        → (i : ℕ) (order : List (Acceptance S.Op)) → IsReadyOrder steps i order
+        → value S.meaning order everything ≡ value_after S.meaning steps i }
+    ensures own { (config : Config) (steps : List (Step S.Op))
+        → Each (λ step. IsEventOf S.meaning config step.event) steps → IsLegal S.meaning config steps
+        → (i : ℕ) → IsReadyOrder steps i (ready_as_made steps i) }
 {}
 
 /// Each answer of a legal history whose calls are of the service's operations is printable, and so holds no line feed.
 pub fn answers_are_printable<S: Service>()
-    ensures { (config : Config) (steps : List (Step S.Op)) → Each (λ step. CallsOp S.meaning step.event) steps → IsLegal S.meaning config steps → Each (λ step. Each HasPrintableAnswer step.outcomes) steps }
+    ensures { (config : Config) (steps : List (Step S.Op))
+        → Each (λ step. CallsOp S.meaning step.event) steps → IsLegal S.meaning config steps
+        → Each (λ step. Each HasPrintableAnswer step.outcomes) steps }
 {}

@@ -2,6 +2,7 @@
 use Rattle.std.proofs.Common.{◌≡◌, ◌≢◌, ℕ, ◌<◌, ◌≤◌, ◌^◌, List, ◌∷◌, ◌++◌, refl, sym, ◌∙◌, ap, subst, arith, inl, inr}
 use Rattle.std.specs.Fmt.{decimal}
 use Rattle.std.proofs.lemmas.Fmt.{decimal_injective}
+use Rattle.lr_base.specs.Kinds.{has_rules}
 use Rattle.lr_base.specs.Meaning.{Meaning}
 use Rattle.lr_base.specs.declared.events.Event.{Event}
 use Rattle.lr_base.specs.declared.events.Event.TheVariants.{Call, Deliver, Gossip, Show}
@@ -19,7 +20,7 @@ use Rattle.lr_script.proofs.Cuts.{number_spaceless, word_spaceless}
 use Rattle.lr_script.proofs.LineCuts.{no_line_one, no_line_refuted, printable_cut}
 use Rattle.lr_script.proofs.Checks.{FailsFirst, miscounted, no_number, out_of_range, no_op, first_one}
 use Rattle.lr_script.proofs.EventTexts.{event_word, event_rest, event_parts, word_cut, AreNumbers, numbers_cut, numbers_one, call_one, call_spaces, AreTwo, two_cut, two_one, pair_one, pair_spaces}
-use Rattle.lr_script.proofs.ShownTexts.{ArePrintable, event_fits, event_printable}
+use Rattle.lr_script.proofs.ShownTexts.{ArePrintable, both, event_printable}
 
 -- one number stands there
 abbrev IsOneNumber : List ℕ → Type 0
@@ -179,29 +180,29 @@ module _ {Value Op : Type 0} (m : Meaning Value Op) (config : Config) (set : IsS
   call_refuted : (fields : List ℕ) (client replica reading : ℕ) (op : Op) → Fits m config (Call client replica reading op) → AreNumbers fields client replica reading (m.text op) → (cause : Cause) → IsBadCall m config fields cause → ⊥
   unfolding op_numbers
   call_refuted fields client replica reading op fits are cause h =
-      let known : IsInRange config fields = ((client, replica, reading, m.text op, are), fits.0, fits.1) in
+      let known : IsInRange config fields = ((client, replica, reading, m.text op, are), fits.0.0, fits.0.1) in
       let last : cause ≡ NoOp = call_cause fields cause NoOp (call_first fields cause h) (no_op known) in
       let bad : HasNoOp m config fields = subst (λ (c : Cause). IsBadCall m config fields c) last h in
       let one = numbers_one fields _ _ _ _ _ _ _ _ (op_numbers fields bad).0.4 are in
-      bad.bad op fits.3 (sym one.3)
+      bad.bad op (both (m.is_op op) (has_rules (m.kind op)) fits.1.3 fits.0.2) (sym one.3)
 
   fields_refuted : (event : Event Op) → Fits m config event → (cause : Cause) → IsBadFields m config (event_word event) (event_rest m event) cause → ⊥
   fields_refuted (Call client replica reading op) fits cause h =
-      call_refuted (event_rest m (Call client replica reading op)) client replica reading op fits (record { text = refl; client_number = omega (arith, fits.0); replica_number = omega (arith, fits.1); reading_number = fits.2 }) cause h
+      call_refuted (event_rest m (Call client replica reading op)) client replica reading op fits (record { text = refl; client_number = fits.1.0; replica_number = fits.1.1; reading_number = fits.1.2 }) cause h
   fields_refuted (Deliver message) fits cause h =
       let fields = decimal message in
-      let one : IsOneNumber fields = (message, refl, fits) in
+      let one : IsOneNumber fields = (message, refl, fits.1) in
       let last : cause ≡ NoOp = first_one (one_field fields) (λ it. it) cause NoOp (deliver_first config fields cause h) (no_op one) in
       subst (λ (c : Cause). IsBadDeliver fields c) last h
   fields_refuted (Gossip from to) fits cause h =
       let fields = decimal from ++ 32 ∷ decimal to in
-      let two : HasTwo fields = (from, to, record { text = refl; first_number = omega (arith, fits.0); second_number = omega (arith, fits.1) }) in
-      let last : cause ≡ NoOp = first_one (two_counted fields) (λ known. known.0) cause NoOp (gossip_first config fields cause h) (no_op (two, fits.0, fits.1, fits.2)) in
+      let two : HasTwo fields = (from, to, record { text = refl; first_number = fits.1.0; second_number = fits.1.1 }) in
+      let last : cause ≡ NoOp = first_one (two_counted fields) (λ known. known.0) cause NoOp (gossip_first config fields cause h) (no_op (two, fits.0.0, fits.0.1, fits.0.2)) in
       subst (λ (c : Cause). IsBadGossip config fields c) last h
   fields_refuted (Show replica) fits cause h =
       let fields = decimal replica in
-      let one : IsOneNumber fields = (replica, refl, omega (arith, fits)) in
-      let last : cause ≡ NoOp = first_one (one_field fields) (λ known. known.0) cause NoOp (show_first config fields cause h) (no_op (one, fits)) in
+      let one : IsOneNumber fields = (replica, refl, fits.1) in
+      let last : cause ≡ NoOp = first_one (one_field fields) (λ known. known.0) cause NoOp (show_first config fields cause h) (no_op (one, fits.0)) in
       subst (λ (c : Cause). IsBadShow config fields c) last h
 
   -- an event's text is not refused
@@ -216,7 +217,7 @@ module _ {Value Op : Type 0} (m : Meaning Value Op) (config : Config) (set : IsS
 
   -- an event's line is not refused
   pub line_refuted : ArePrintable m → (event : Event Op) → Fits m config event → (bytes later : List ℕ) → bytes ≡ event_text m event ++ 10 ∷ later → (cause : Cause) → IsBadLine m config bytes cause → ⊥
-  line_refuted ops event fits bytes later e cause (no_line why bad) = no_line_refuted bytes (event_text m event) later why e (event_printable m ops event (event_fits m config set event fits)) bad
+  line_refuted ops event fits bytes later e cause (no_line why bad) = no_line_refuted bytes (event_text m event) later why e (event_printable m ops event fits.1) bad
   line_refuted ops event fits bytes later e cause (no_event line other why is printable bad) =
-      let cut = printable_cut line (event_text m event) other later (sym is ∙ e) printable (event_printable m ops event (event_fits m config set event fits)) in
+      let cut = printable_cut line (event_text m event) other later (sym is ∙ e) printable (event_printable m ops event fits.1) in
       event_refuted event fits line cut.0 why bad

@@ -16,7 +16,7 @@ use Rattle.lr_script.proofs.LineCuts.{no_line_one, no_line_refuted, printable_cu
 use Rattle.lr_script.proofs.EventTexts.{HasOneText, event_cut}
 use Rattle.lr_script.proofs.EventRefusals.{line_cause, line_refuted}
 use Rattle.lr_script.proofs.ScriptRefusals.{all_first, all_others, at_head, head_one, head_refuted, line_more, never_empty, refuted}
-use Rattle.lr_script.proofs.ShownTexts.{ArePrintable, event_fits, event_printable}
+use Rattle.lr_script.proofs.ShownTexts.{ArePrintable, event_printable}
 
 -- the bytes don't begin with a header's line for one cause, which is at one line
 head_fault_one : (bytes : List ℕ) (line at : ℕ) (a b : Cause) → IsBadHead bytes line a → IsBadHead bytes at b → (line ≡ at) × (a ≡ b)
@@ -49,14 +49,14 @@ module _ {Value Op : Type 0} (m : Meaning Value Op) (ops : ArePrintable m) where
       let more = lines_one texts events others (all_others (EventFits m) x events fit) (all_others (EventFits m) o others fits) cut.1 in
       λ i. cut.0 i ∷ more i
 
-  all_fit : (config : Config) → IsSetUp config → (events : List (Event Op)) → All (Fits m config) events → All (EventFits m) events
-  all_fit config set events fit = λ k d below. event_fits m config set _ (fit k d below)
+  all_fit : (config : Config) (events : List (Event Op)) → All (Fits m config) events → All (EventFits m) events
+  all_fit config events fit = λ k d below. (fit k d below).1
 
   -- bytes are at most one script
   pub script_one : HasOneText m → (bytes : List ℕ) (header other : Header) (events more : List (Event Op)) → IsScript m header events bytes → IsScript m other more bytes → (header ≡ other) × (events ≡ more)
   script_one texts bytes header other events more is too =
       let one = head_one bytes header other (events_text m events) (events_text m more) is.valid too.valid is.text too.text in
-      (one.0, lines_one texts events more (all_fit header.config is.valid events is.fit) (all_fit other.config too.valid more too.fit) one.1)
+      (one.0, lines_one texts events more (all_fit header.config events is.fit) (all_fit other.config more too.fit) one.1)
 
   -- lines of events go on with a bad one in one way
   among_one : (config : Config) → IsSetUp config → (events others : List (Event Op)) (rest more : List ℕ) → All (Fits m config) events → All (Fits m config) others → events_text m events ++ rest ≡ events_text m others ++ more → (a b : Cause) → IsBadLine m config rest a → IsBadLine m config more b → (length events ≡ length others) × (a ≡ b)
@@ -69,7 +69,7 @@ module _ {Value Op : Type 0} (m : Meaning Value Op) (ops : ArePrintable m) where
       let here = all_first (Fits m config) x events fit in
       let there = all_first (Fits m config) o others fits in
       let same = sym (line_more (event_text m x) (events_text m events) rest) ∙ e ∙ line_more (event_text m o) (events_text m others) more in
-      let cut = printable_cut (event_text m x) (event_text m o) (events_text m events ++ rest) (events_text m others ++ more) same (event_printable m ops x (event_fits m config set x here)) (event_printable m ops o (event_fits m config set o there)) in
+      let cut = printable_cut (event_text m x) (event_text m o) (events_text m events ++ rest) (events_text m others ++ more) same (event_printable m ops x here.1) (event_printable m ops o there.1) in
       let one = among_one config set events others rest more (all_others (Fits m config) x events fit) (all_others (Fits m config) o others fits) cut.1 a b bad worse in
       (ap suc one.0, one.1)
 

@@ -18,7 +18,7 @@ use Rattle.lr_script.specs.Script.{AreEventsOf, Fits, IsSetUp, IsScript, HasHead
 use Rattle.lr_script.specs.Texts.{event_text, header_text, config_text, service_text}
 use Rattle.lr_script.specs.Faults.{IsBadLine, IsBadHead, too_long, empty, bad_head, no_header, IsBadAt, IsHeadFault, IsLineFault, IsScriptFault}
 use Rattle.lr_script.proofs.Cuts.{field_one, number_spaceless, config_one, service_spaceless}
-use Rattle.lr_script.proofs.ShownTexts.{ArePrintable, header_printable, event_fits, event_printable}
+use Rattle.lr_script.proofs.ShownTexts.{ArePrintable, header_printable, event_printable}
 use Rattle.lr_script.proofs.LineCuts.{no_line_refuted, printable_cut}
 use Rattle.lr_script.proofs.EventRefusals.{line_refuted}
 
@@ -43,7 +43,7 @@ lines_refuted m ops config set [] (o ∷ others) rest fit fits e some cause bad 
     line_refuted m config set ops o (all_first (Fits m config) o others fits) rest (events_text m others) (sym e ∙ append_assoc (event_text m o) (10 ∷ []) (events_text m others)) cause bad
 lines_refuted m ops config set (x ∷ events) [] rest fit fits e some cause bad = never_empty (event_text m x) (events_text m events ++ rest) (e ∙ line_more (event_text m x) (events_text m events) rest)
 lines_refuted m ops config set (x ∷ events) (o ∷ others) rest fit fits e some cause bad =
-    let cut = printable_cut (event_text m o) (event_text m x) (events_text m others) (events_text m events ++ rest) (sym (append_assoc (event_text m o) (10 ∷ []) (events_text m others)) ∙ e ∙ line_more (event_text m x) (events_text m events) rest) (event_printable m ops o (event_fits m config set o (all_first (Fits m config) o others fits))) (event_printable m ops x (event_fits m config set x (all_first (Fits m config) x events fit))) in
+    let cut = printable_cut (event_text m o) (event_text m x) (events_text m others) (events_text m events ++ rest) (sym (append_assoc (event_text m o) (10 ∷ []) (events_text m others)) ∙ e ∙ line_more (event_text m x) (events_text m events) rest) (event_printable m ops o (all_first (Fits m config) o others fits).1) (event_printable m ops x (all_first (Fits m config) x events fit).1) in
     lines_refuted m ops config set events others rest (all_others (Fits m config) x events fit) (all_others (Fits m config) o others fits) cut.1 some cause bad
 
 same_config : (a b : Config) → a.replicas ≡ b.replicas → a.clients ≡ b.clients → a.delta ≡ b.delta → a ≡ b

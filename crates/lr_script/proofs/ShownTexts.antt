@@ -4,19 +4,17 @@ use Rattle.std.specs.Fmt.{decimal}
 use Rattle.std.proofs.lemmas.Bool.Decides.{nat_tests}
 use Rattle.std.proofs.lemmas.Fmt.{decimal_by_steps}
 use Rattle.std.proofs.lemmas.List.Folds.{list_all-append}
-use Rattle.std.proofs.lemmas.Bool.{and_parts}
-use Rattle.lr_base.specs.Kinds.{has_rules}
 use Rattle.lr_base.specs.Meaning.{Meaning, is_printable}
 use Rattle.lr_base.specs.declared.events.Event.{Event}
 use Rattle.lr_base.specs.declared.events.Event.TheVariants.{Call, Deliver, Gossip, Show}
 use Rattle.lr_base.specs.declared.names.Config.{Config}
 use Rattle.lr_script.specs.declared.heading.Header.{Header}
 use Rattle.lr_script.specs.declared.heading.Name.TheVariants.{Tally, Mail, Claims}
-use Rattle.lr_script.specs.Script.{EventFits, Fits, IsSetUp, is_called}
+use Rattle.lr_script.specs.Script.{EventFits, IsSetUp}
 use Rattle.lr_script.specs.Texts.{event_text, header_text, config_text, service_text}
 
 -- two tests that pass
-both : (a b : Bool) → a ≡ true → b ≡ true → (a && b) ≡ true
+pub both : (a b : Bool) → a ≡ true → b ≡ true → (a && b) ≡ true
 both true b ha hb = hb
 both false b ha hb = cc
 
@@ -45,17 +43,6 @@ header_printable header set = elim header.service as (λ service. is_printable (
 -- each operation's text is printable
 abbrev pub ArePrintable : {Value Op : Type 0} → Meaning Value Op → Type 0
 ArePrintable {Value} {Op} m = (op : Op) → m.is_op op ≡ true → is_printable (m.text op) ≡ true
-
--- what may be called is an operation
-pub called_op : {Value Op : Type 0} (m : Meaning Value Op) (op : Op) → is_called m op ≡ true → m.is_op op ≡ true
-called_op m op called = (and_parts (m.is_op op) (has_rules (m.kind op)) called).0
-
--- the events of a run have numbers that fit
-pub event_fits : {Value Op : Type 0} (m : Meaning Value Op) (config : Config) → IsSetUp config → (event : Event Op) → Fits m config event → EventFits m event
-event_fits m config set (Call client replica reading op) fits = (omega (arith, fits.0), omega (arith, fits.1), fits.2, called_op m op fits.3)
-event_fits m config set (Deliver message) fits = fits
-event_fits m config set (Gossip from to) fits = (omega (arith, fits.0), omega (arith, fits.1))
-event_fits m config set (Show replica) fits = omega (arith, fits)
 
 pub event_printable : {Value Op : Type 0} (m : Meaning Value Op) → ArePrintable m → (event : Event Op) → EventFits m event → is_printable (event_text m event) ≡ true
 event_printable m ops (Call client replica reading op) fits =

@@ -2,6 +2,7 @@
 use Rattle.std.specs.Prelude.{◌≡◌, ◌≢◌, ℕ, ◌<◌, ◌≤◌, ◌^◌, Bool, true, ◌&&◌, List, [], ◌∷◌, ◌++◌, length}
 use Rattle.std.specs.List.{All, flat_map}
 use Rattle.lr_base.specs.Config.{IsValid}
+use Rattle.lr_base.specs.Events.{IsEventOf}
 use Rattle.lr_base.specs.Kinds.{has_rules}
 use Rattle.lr_base.specs.Meaning.{Meaning}
 use Rattle.lr_base.specs.declared.events.Event.{Event}
@@ -35,15 +36,6 @@ is_called m op = m.is_op op && has_rules (m.kind op)
 abbrev pub IsNoCalled : {Value Op : Type 0} → Meaning Value Op → List ℕ → Type 0
 IsNoCalled {Value} {Op} m text = (op : Op) → is_called m op ≡ true → m.text op ≢ text
 
--- an event names a client and replicas that there are, gossip two of them, and it has numbers that fit and calls an
--- operation that has rules
-abbrev pub Fits : {Value Op : Type 0} → Meaning Value Op → Config → Event Op → Type 0
-Fits m config (Call client replica reading op) =
-    (client < config.clients) × (replica < config.replicas) × (reading < 2 ^ 64) × (is_called m op ≡ true)
-Fits m config (Deliver message) = message < 2 ^ 64
-Fits m config (Gossip from to) = (from < config.replicas) × (to < config.replicas) × (from ≢ to)
-Fits m config (Show replica) = replica < config.replicas
-
 -- an event's numbers fit in 64 bits, and it calls an operation of the service
 abbrev pub EventFits : {Value Op : Type 0} → Meaning Value Op → Event Op → Type 0
 EventFits m (Call client replica reading op) =
@@ -51,6 +43,10 @@ EventFits m (Call client replica reading op) =
 EventFits m (Deliver message) = message < 2 ^ 64
 EventFits m (Gossip from to) = (from < 2 ^ 64) × (to < 2 ^ 64)
 EventFits m (Show replica) = replica < 2 ^ 64
+
+-- an event of a run with this set-up, with numbers that fit and an operation of the service
+abbrev pub Fits : {Value Op : Type 0} → Meaning Value Op → Config → Event Op → Type 0
+Fits m config event = IsEventOf m config event × EventFits m event
 
 -- the bytes begin with this header's line
 pub record HasHeader (header : Header) (bytes : List ℕ) : Type 0 where

@@ -2,9 +2,8 @@
 ghost use Rattle.std.specs.Prelude.{◌≡◌, ◌==◌, ◌∷◌, ◌++◌, ℕ, List, true, IfOk, IfErr, not, nat_le, ◌&&◌, position};
 ghost use Rattle.lr_base.specs.Meaning.{is_printable};
 ghost use Rattle.lr_base.specs.declared.events.Event.{Event};
-ghost use Rattle.lr_base.specs.declared.names.Config.{Config};
 ghost use Rattle.lr_script.specs.Faults.{IsNoLine};
-ghost use Rattle.lr_script.specs.Script.{Fits, IsSetUp, line_of};
+ghost use Rattle.lr_script.specs.Script.{EventFits, line_of};
 ghost use Rattle.lr_script.specs.Texts.{event_text};
 
 use crate::Cause;
@@ -46,7 +45,7 @@ fn first_feed(bytes: &[u8]) -> Option<usize>
 /// The text of the event whose line the lines begin with, without the LF, and the lines behind it. So the lines of a
 /// script's events are had one after another, and none is copied or printed.
 pub fn split_event_line<S: Service>(lines: &[u8]) -> (&[u8], &[u8])
-    ensures { (config : Config) (event : Event S.Op) (later : List ℕ) → IsSetUp config → Fits S.meaning config event
+    ensures { (event : Event S.Op) (later : List ℕ) → EventFits S.meaning event
         → lines.now ≡ line_of (event_text S.meaning event) ++ later
         → (result.0.now ≡ event_text S.meaning event) × (result.1.now ≡ later) }
 {

@@ -1,26 +1,21 @@
 -- What an end says, from what was said of the parts.
-use Rattle.std.proofs.Common.{◌≡◌, ◌≢◌, ◌≤◌, ◌<◌, ◌⊎◌, ◌↔◌, inl, inr, ℕ, Bool, true, false, not, List, [], length, Option, Result, Ok, Err, refl, sym, ap, subst, ◌∙◌}
+use Rattle.std.proofs.Common.{◌≡◌, ◌≢◌, ◌≤◌, ◌<◌, ◌⊎◌, ◌↔◌, inl, inr, ℕ, List, [], length, Option, Result, Ok, refl, sym, ap, subst, ◌∙◌}
 use Rattle.std.proofs.KnownBytes.{Appends-nil}
 use Rattle.std.specs.Io.KnownBytes.{Appends}
 use Rattle.lr_base.specs.Meaning.{Meaning}
-use Rattle.std.proofs.lemmas.Bool.{and_parts}
-use Rattle.lr_base.specs.Kinds.{has_rules, is_forced, is_immediate}
 use Rattle.lr_base.specs.declared.events.Event.{Event}
-use Rattle.lr_base.specs.declared.events.Event.TheVariants.{Call, Deliver, Gossip, Show}
-use Rattle.lr_base.specs.declared.names.Config.{Config}
-use Rattle.lr_world.specs.Shapes.{CallsPlain}
 use Rattle.lr_script.specs.Faults.{IsBadAt, IsBadHead, IsHeadFault, IsRefusal, IsRefused, IsScriptFault}
 use Rattle.lr_script.specs.declared.refusals.Cause.{Cause}
 use Rattle.lr_script.specs.declared.refusals.Cause.TheVariants.{TooLong}
 use Rattle.lr_script.specs.declared.refusals.ScriptFault.{ScriptFault}
 use Rattle.lr_script.specs.declared.refusals.ScriptFault.TheVariants.{Line, NoMemory as NoMemoryLeft}
-use Rattle.lr_script.specs.Script.{Fits, HasHeader, IsNamed, IsScript, events_text}
+use Rattle.lr_script.specs.Script.{HasHeader, IsNamed, IsScript, events_text}
 use Rattle.lr_script.specs.Texts.{service_number}
 use Rattle.lr_script.specs.declared.heading.Header.{Header}
 use Rattle.lr_script.specs.declared.heading.Name.{Name}
 use Rattle.lr_script.specs.declared.heading.Name.TheVariants.{Tally, Mail, Claims}
 use Rattle.lr_sim.specs.Headline.{HasBegun, HasPrinted}
-use Rattle.lr_sim.specs.Ends.{HasRead, HasRun, HasRunOf, HasRunPart, HasRunPartOf, IsBadBehind, IsComplete, IsDoneFor, IsFault, IsNoScriptOf, IsRefusedFor, Means, MeansOf, no_memory, was_read}
+use Rattle.lr_sim.specs.Ends.{HasRead, HasRunOf, HasRunPart, HasRunPartOf, IsBadBehind, IsComplete, IsDoneFor, IsFault, IsNoScriptOf, IsRefusedFor, Means, MeansOf, no_memory, was_read}
 use Rattle.lr_sim.specs.Services.{HoldsOf}
 use Rattle.lr_sim.specs.declared.command.SimEnd.{SimEnd}
 use Rattle.lr_sim.specs.declared.command.SimEnd.TheVariants.{Ok as Done, Script, ReadFault, WriteFault, NoMemory}
@@ -171,17 +166,3 @@ pub refusals-of : (bytes : List ℕ)
 refusals-of bytes t m c Tally line cause bad = t line cause (inl bad)
 refusals-of bytes t m c Mail line cause bad = m line cause (inl bad)
 refusals-of bytes t m c Claims line cause bad = c line cause (inl bad)
-
--- an event that fits calls an operation that has rules
-pub fits-plain : {Value Op : Type 0} (m : Meaning Value Op) (config : Config) (event : Event Op) → Fits m config event → CallsPlain m event
-fits-plain m config (Call client replica reading op) fits =
-    let rules = and_parts (m.is_op op) (has_rules (m.kind op)) fits.3 in
-    let parts = and_parts (not (is_forced (m.kind op))) (not (is_immediate (m.kind op))) rules.1 in
-    record { not_forced = not-true _ parts.0; not_immediate = not-true _ parts.1 }
-  where
-    not-true : (b : Bool) → not b ≡ true → b ≡ false
-    not-true true is = sym is
-    not-true false is = refl
-fits-plain m config (Deliver message) fits = tt
-fits-plain m config (Gossip from to) fits = tt
-fits-plain m config (Show replica) fits = tt

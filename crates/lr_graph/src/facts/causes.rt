@@ -54,7 +54,8 @@ fn is_ready<O>(
     received: &SpotList,
     update: &AcceptedUpdate<O>,
 ) -> bool
-    ensures { result ≡ is_ready_among (map acceptance_of accepted.now) (set_of received.now) (acceptance_of update.now) }
+    ensures { result
+        ≡ is_ready_among (map acceptance_of accepted.now) (set_of received.now) (acceptance_of update.now) }
 {
     received.has(update.spot) && is_within(accepted, &update.below, received)
 }

@@ -1,6 +1,6 @@
 //! What a front end does, as far as a history's facts say it.
 ghost use Rattle.std.specs.Prelude.{◌≡◌, ◌==◌, ◌^◌, None, IfOk};
-ghost use Rattle.lr_graph.specs.After.{front_called};
+ghost use Rattle.lr_graph.specs.After.{call_read};
 ghost use Rattle.lr_graph.specs.Sets.{◌∪◌};
 ghost use Rattle.lr_graph.specs.Told.{front_of, first_front as none_called, set_of};
 
@@ -26,14 +26,15 @@ pub fn first_front<O: Drop>(alloc: Global) -> FrontNow<O>
 }
 
 /// A front end after a call of an operation at a clock reading.
-pub fn called<O: Operation>(
+pub fn after_call<O: Operation>(
     client: u32,
     reading: u64,
     op: &O,
     front: FrontNow<O>,
 ) -> Result<FrontNow<O>, NoMemory>
     ensures { IfOk result (λ after. front_of after
-        ≡ front_called client reading op.now (front_of front) (front_of front).open_call ((front_of front).calls == 2 ^ 62)) }
+        ≡ call_read client reading op.now (front_of front)
+        (front_of front).open_call ((front_of front).calls == 2 ^ 62)) }
 {
     let FrontNow {
         label,
@@ -66,8 +67,12 @@ pub fn called<O: Operation>(
 }
 
 /// A front end after it took the reply to its open call, which stands for these spots.
-pub fn replied<O: Operation>(front: FrontNow<O>, names: &SpotList) -> Result<FrontNow<O>, NoMemory>
-    ensures { IfOk result (λ after. front_of after ≡ record (front_of front) { label = (front_of front).label ∪ set_of names.now; open_call = None }) }
+pub fn after_reply<O: Operation>(
+    front: FrontNow<O>,
+    names: &SpotList,
+) -> Result<FrontNow<O>, NoMemory>
+    ensures { IfOk result (λ after. front_of after
+        ≡ record (front_of front) { label = (front_of front).label ∪ set_of names.now; open_call = None }) }
 {
     let FrontNow {
         mut label,

@@ -3,13 +3,14 @@ ghost use Rattle.std.specs.Prelude.{◌≡◌, None, IfOk, OnOk};
 ghost use Rattle.std.specs.Option.{option_map};
 ghost use Rattle.lr_base.specs.declared.events.Outcome.TheVariants.{Send};
 ghost use Rattle.lr_base.specs.declared.names.Actor.TheVariants.{Replica};
-ghost use Rattle.lr_graph.specs.After.{accepts, carried, copy_of, line_read, ready_at, received_at, take_read, takes_reply};
+ghost use Rattle.lr_graph.specs.After.{accepts, carried, copy_of, line_read};
+ghost use Rattle.lr_graph.specs.After.{ready_at, received_at, take_read, takes_reply};
 ghost use Rattle.lr_graph.specs.Graph.{first_facts, ready, GossipOf, QueryCopy, UpdateCopy};
 ghost use Rattle.lr_graph.specs.Sets.{put_at};
 ghost use Rattle.lr_graph.specs.Told.{call_of, front_of, fronts_in, load_of, received_in, set_of, told};
 
 use crate::facts::causes::{below_of, ready_spots};
-use crate::facts::fronts::{first_front, replied};
+use crate::facts::fronts::{after_reply, first_front};
 use crate::facts::items::{AcceptedUpdate, CallCopy, FrontNow, Gathered, Load, SentCopy};
 use crate::facts::newest::Newest;
 use crate::facts::spots::{SpotList, add_all};
@@ -43,7 +44,8 @@ impl<O: Drop> Gathered<O> {
 
     /// What is ready at a replica.
     pub fn ready_at(&self, alloc: Global, replica: u8) -> Result<SpotList, NoMemory>
-        ensures { IfOk result (λ spots. set_of spots ≡ ready (told self.now).accepted ((told self.now).received replica)) }
+        ensures { IfOk result (λ spots. set_of spots
+            ≡ ready (told self.now).accepted ((told self.now).received replica)) }
     {
         let received = self.received_at(alloc, replica)?;
         ready_spots(alloc, self.accepted.as_slice(), &received)
@@ -125,14 +127,16 @@ impl<O: Operation> Gathered<O> {
 
     // From now on a replica has received these spots.
     fn set_received(&mut self, replica: u8, spots: SpotList) -> Result<(), NoMemory>
-        ensures { OnOk result (told self.new ≡ record (told self.old) { received = put_at replica (set_of spots) (told self.old).received }) }
+        ensures { OnOk result (told self.new
+            ≡ record (told self.old) { received = put_at replica (set_of spots) (told self.old).received }) }
     {
         self.received.put(u32::from(replica), spots)
     }
 
     // From now on this is a client's front end.
     pub fn set_front(&mut self, client: u32, front: FrontNow<O>) -> Result<(), NoMemory>
-        ensures { OnOk result (told self.new ≡ record (told self.old) { front = put_at client (front_of front) (told self.old).front }) }
+        ensures { OnOk result (told self.new
+            ≡ record (told self.old) { front = put_at client (front_of front) (told self.old).front }) }
     {
         self.fronts.put(client, front)
     }
@@ -183,7 +187,8 @@ impl<O: Operation> Gathered<O> {
 
     // A replica receives what gossip carries.
     pub fn take(&mut self, alloc: Global, replica: u8, names: &SpotList) -> Result<(), NoMemory>
-        ensures { OnOk result (told self.new ≡ take_read (told self.old) (Replica replica) (GossipOf (set_of names.now))) }
+        ensures { OnOk result (told self.new
+            ≡ take_read (told self.old) (Replica replica) (GossipOf (set_of names.now))) }
     {
         let mut received = self.received_at(alloc, replica)?;
         add_all(&mut received, names)?;
@@ -200,7 +205,7 @@ impl<O: Operation> Gathered<O> {
         ensures { OnOk result (told self.new ≡ takes_reply (told self.old) client (set_of names.now)) }
     {
         let front = self.front_at(alloc, client)?;
-        let front = replied(front, names)?;
+        let front = after_reply(front, names)?;
         self.set_front(client, front)
     }
 }

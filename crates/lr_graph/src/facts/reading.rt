@@ -1,12 +1,13 @@
 //! Reading a history: how its facts change by each event, and by each line that is printed of it.
 ghost use Rattle.std.specs.Prelude.{◌≡◌, ◌==◌, Some, None, IfOk, OnOk, find};
 ghost use Rattle.std.specs.Option.{option_copied, option_map};
-ghost use Rattle.lr_graph.specs.After.{accept_read, after, delivered, event_read, got_read, line_read, lines_read, take_read};
+ghost use Rattle.lr_graph.specs.After.{after, delivery_of, event_read, line_read, lines_read};
+ghost use Rattle.lr_graph.specs.After.{accept_read, got_read, take_read};
 ghost use Rattle.lr_graph.specs.Central.{facts_after};
 ghost use Rattle.lr_graph.specs.Graph.{first_facts};
-ghost use Rattle.lr_graph.specs.Told.{bare, load_of, message_of, told};
+ghost use Rattle.lr_graph.specs.Told.{bare, load_of, sent_message_of, told};
 
-use crate::facts::fronts::called;
+use crate::facts::fronts::after_call;
 use crate::facts::items::{Gathered, Load, SentCopy};
 use lr_base::lr_service::Operation;
 use lr_base::{Actor, Event, NoMemory, Outcome, Spot, Step};
@@ -25,7 +26,7 @@ impl<O: Operation> Gathered<O> {
                 op,
             } => {
                 let front = self.front_at(alloc, *client)?;
-                let front = called(*client, *reading, op, front)?;
+                let front = after_call(*client, *reading, op, front)?;
                 self.set_front(*client, front)
             }
             Event::Deliver { message: _message } => Ok(()),
@@ -38,8 +39,8 @@ impl<O: Operation> Gathered<O> {
     }
 
     // The message that an event delivers, if there is one.
-    fn delivered(&self, event: &Event<O>) -> Result<Option<SentCopy<O>>, NoMemory>
-        ensures { IfOk result (λ came. option_map message_of came ≡ delivered (told self.now) event.now) }
+    fn delivery_of(&self, event: &Event<O>) -> Result<Option<SentCopy<O>>, NoMemory>
+        ensures { IfOk result (λ came. option_map sent_message_of came ≡ delivery_of (told self.now) event.now) }
     {
         match event {
             Event::Deliver { message } => copy_numbered(self.messages.as_slice(), *message),
@@ -133,7 +134,8 @@ impl<O: Operation> Gathered<O> {
         came: &SentCopy<O>,
         line: &Outcome,
     ) -> Result<(), NoMemory>
-        ensures { OnOk result (told self.new ≡ bare (line_read (Some (message_of came.now)) (told self.old) line.now)) }
+        ensures { OnOk result (told self.new
+            ≡ bare (line_read (Some (sent_message_of came.now)) (told self.old) line.now)) }
     {
         match line {
             Outcome::Send {
@@ -185,7 +187,8 @@ impl<O: Operation> Gathered<O> {
         came: &Option<SentCopy<O>>,
         line: &Outcome,
     ) -> Result<(), NoMemory>
-        ensures { OnOk result (told self.new ≡ bare (line_read (option_map message_of came.now) (told self.old) line.now)) }
+        ensures { OnOk result (told self.new
+            ≡ bare (line_read (option_map sent_message_of came.now) (told self.old) line.now)) }
     {
         match came {
             Some(message) => self.read_of_message(alloc, message, line),
@@ -224,7 +227,8 @@ fn read_lines<O: Operation>(
     came: &Option<SentCopy<O>>,
     lines: &[Outcome],
 ) -> Result<(), NoMemory>
-    ensures { OnOk result (told facts.new ≡ bare (lines_read (option_map message_of came.now) (told facts.old) lines.now)) }
+    ensures { OnOk result (told facts.new
+        ≡ bare (lines_read (option_map sent_message_of came.now) (told facts.old) lines.now)) }
 {
     for line in lines {
         facts.read_line(alloc, came, line)?;
@@ -240,7 +244,7 @@ fn read_step<O: Operation>(
 ) -> Result<(), NoMemory>
     ensures { OnOk result (told facts.new ≡ bare (after (told facts.old) step.now)) }
 {
-    let came = facts.delivered(&step.event)?;
+    let came = facts.delivery_of(&step.event)?;
     facts.read_event(alloc, &step.event)?;
     read_lines(facts, alloc, &came, step.outcomes.as_slice())
 }

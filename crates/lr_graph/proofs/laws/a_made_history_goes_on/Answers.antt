@@ -1,6 +1,6 @@
 use Rattle.std.proofs.Common.{refl}
 use Rattle.lr_graph.specs.Runs.{first_run}
-use Rattle.lr_graph.proofs.Law.{made-more}
+use Rattle.lr_graph.proofs.Histories.Law.{made-more}
 use Rattle.lr_graph.proofs.laws.a_made_history_goes_on.Goals as goal
 
 pub returns-clause-first : goal.returns-clause-first

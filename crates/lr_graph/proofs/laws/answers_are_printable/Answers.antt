@@ -1,4 +1,4 @@
-use Rattle.lr_graph.proofs.Printable.{answers-printable}
+use Rattle.lr_graph.proofs.Histories.Printable.{answers-printable}
 use Rattle.lr_graph.proofs.laws.answers_are_printable.Goals as goal
 
 pub returns : goal.returns

@@ -1,4 +1,4 @@
-use Rattle.lr_graph.proofs.Orderings.{every-order, ready-order}
+use Rattle.lr_graph.proofs.Histories.Orderings.{every-order, ready-order}
 use Rattle.lr_graph.proofs.laws.every_order_gives_one_value.Goals as goal
 
 pub returns-clause-value : goal.returns-clause-value

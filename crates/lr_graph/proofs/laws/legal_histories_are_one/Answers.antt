@@ -1,5 +1,5 @@
 use Rattle.lr_graph.specs.Graph.{first_facts}
-use Rattle.lr_graph.proofs.Law.{one-history}
+use Rattle.lr_graph.proofs.Histories.Law.{one-history}
 use Rattle.lr_graph.proofs.laws.legal_histories_are_one.Goals as goal
 
 pub returns : goal.returns

@@ -1,5 +1,5 @@
-use Rattle.lr_graph.proofs.Members.{each-from}
-use Rattle.lr_graph.proofs.ReadySets.{ready-closed, ready-greatest, ready-received}
+use Rattle.lr_graph.proofs.Lists.Members.{each-from}
+use Rattle.lr_graph.proofs.Sets.ReadySets.{ready-closed, ready-greatest, ready-received}
 use Rattle.lr_graph.proofs.laws.ready_is_the_greatest_closed_set.Goals as goal
 
 pub returns-clause-received : goal.returns-clause-received

@@ -1,5 +1,5 @@
 use Rattle.lr_graph.specs.Runs.{first_run, history_of, run_after}
-use Rattle.lr_graph.proofs.Law.{history-events, made-legal, steps-made}
+use Rattle.lr_graph.proofs.Histories.Law.{history-events, made-legal, steps-made}
 use Rattle.lr_graph.proofs.laws.runs_are_legal.Goals as goal
 
 pub returns-clause-legal : goal.returns-clause-legal

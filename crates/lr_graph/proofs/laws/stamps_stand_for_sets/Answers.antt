@@ -1,7 +1,7 @@
 use Rattle.lr_graph.specs.Central.{facts_after}
 use Rattle.lr_graph.specs.Graph.{first_facts}
-use Rattle.lr_graph.proofs.Law.{same-after}
-use Rattle.lr_graph.proofs.StampSets.{same-central}
+use Rattle.lr_graph.proofs.Histories.Law.{same-after}
+use Rattle.lr_graph.proofs.Stamps.StampSets.{same-central}
 use Rattle.lr_graph.proofs.laws.stamps_stand_for_sets.Goals as goal
 
 pub returns : goal.returns

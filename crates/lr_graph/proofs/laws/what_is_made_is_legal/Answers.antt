@@ -1,4 +1,4 @@
-use Rattle.lr_graph.proofs.Law.{made-legal}
+use Rattle.lr_graph.proofs.Histories.Law.{made-legal}
 use Rattle.lr_graph.proofs.laws.what_is_made_is_legal.Goals as goal
 
 pub returns : goal.returns

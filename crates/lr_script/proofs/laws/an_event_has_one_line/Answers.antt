@@ -1,11 +1,10 @@
 use Rattle.std.proofs.Common.{◌∷◌, sym, ◌∙◌, append_assoc, []}
 use Rattle.lr_script.specs.Texts.{event_text}
 use Rattle.lr_script.proofs.EventTexts.{event_one, event_cut}
-use Rattle.lr_script.proofs.ShownTexts.{event_fits}
 use Rattle.lr_script.proofs.laws.an_event_has_one_line.Goals as goal
 
 pub returns-clause-line : goal.returns-clause-line
-returns-clause-line g c = λ config a b set fa fb. event_one g.S.Service.meaning g.met.S.Service.lawful.one_text a b (event_fits g.S.Service.meaning config set a fa) (event_fits g.S.Service.meaning config set b fb)
+returns-clause-line g c = λ config a b set fa fb. event_one g.S.Service.meaning g.met.S.Service.lawful.one_text a b fa.1 fb.1
 
 pub returns-clause-first : goal.returns-clause-first
 returns-clause-first g c =

@@ -1,7 +1,7 @@
 use Rattle.std.proofs.Common.{sym, ap, ◌∙◌}
 use Rattle.std.specs.Option.{option_copied}
 use Rattle.lr_graph.specs.Told.{set_of}
-use Rattle.lr_graph.proofs.ToldLists.{below_of-found, below_of-none}
+use Rattle.lr_graph.proofs.Told.ToldLists.{below_of-found, below_of-none}
 use Rattle.std.proofs.lemmas.Result.{IfOk-weaker}
 use Rattle.lr_graph.proofs.facts.causes.below_of.Goals as goal
 

@@ -1,6 +1,6 @@
 use Rattle.std.proofs.Common.{◌∙◌}
 use Rattle.lr_graph.specs.Told.{set_of}
-use Rattle.lr_graph.proofs.ToldLists.{within-told}
+use Rattle.lr_graph.proofs.Told.ToldLists.{within-told}
 use Rattle.lr_graph.proofs.facts.causes.is_within.Goals as goal
 
 pub returns : goal.returns

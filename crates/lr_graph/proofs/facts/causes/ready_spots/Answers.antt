@@ -1,6 +1,6 @@
 use Rattle.std.proofs.Common.{map, sym, ◌∙◌}
 use Rattle.lr_graph.specs.Told.{acceptance_of, set_of}
-use Rattle.lr_graph.proofs.ToldLists.{all-ready, ready-passed, ready-taken}
+use Rattle.lr_graph.proofs.Told.ToldLists.{all-ready, ready-passed, ready-taken}
 use Rattle.lr_graph.proofs.facts.causes.ready_spots.Goals as goal
 
 pub loop-update-preserved-then-not-is_ready : goal.loop-update-preserved-then-not-is_ready

@@ -1,6 +1,6 @@
 use Rattle.std.proofs.Common.{◌≡◌, map, take}
 use Rattle.lr_graph.specs.Told.{acceptance_of, set_of}
-use Rattle.lr_graph.proofs.ToldLists.{ready_of_some}
+use Rattle.lr_graph.proofs.Told.ToldLists.{ready_of_some}
 use Rattle.lr_graph.proofs.facts.causes.ready_spots.Given as goal
 
 -- the ready ones so far are in the set

@@ -1,6 +1,6 @@
 use Rattle.lr_graph.specs.Graph.{first_facts}
 use Rattle.lr_graph.specs.Told.{told}
-use Rattle.lr_graph.proofs.Reading.{step-more}
+use Rattle.lr_graph.proofs.Told.Reading.{step-more}
 use Rattle.lr_graph.proofs.facts.reading.facts_of.Goals as goal
 
 pub loop-step-preserved : goal.loop-step-preserved

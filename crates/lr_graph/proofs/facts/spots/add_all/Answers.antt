@@ -1,4 +1,4 @@
-use Rattle.lr_graph.proofs.ToldLists.{set_of-more}
+use Rattle.lr_graph.proofs.Told.ToldLists.{set_of-more}
 use Rattle.lr_graph.proofs.facts.spots.add_all.Goals as goal
 
 pub loop-spot-preserved : goal.loop-spot-preserved

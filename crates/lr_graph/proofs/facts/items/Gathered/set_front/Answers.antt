@@ -1,5 +1,5 @@
 use Rattle.std.proofs.lemmas.Result.{on_ok_weaker}
-use Rattle.lr_graph.proofs.Gathering.{told-front}
+use Rattle.lr_graph.proofs.Told.Gathering.{told-front}
 use Rattle.lr_graph.proofs.facts.items.Gathered.set_front.Goals as goal
 
 pub returns : goal.returns

@@ -1,7 +1,7 @@
 use Rattle.std.proofs.Common.{◌==◌, rules}
 use Rattle.std.specs.Prelude.{not}
 use Rattle.std.proofs.lemmas.Fn.{filter_same}
-use Rattle.lr_graph.proofs.TableLemmas.{entry_at-inserted}
+use Rattle.lr_graph.proofs.Told.TableLemmas.{entry_at-inserted}
 use Rattle.lr_graph.proofs.facts.table.Table.put.Goals as goal
 
 pub returns : goal.returns

@@ -1,0 +1,5 @@
+-- Applying what is ready.
+pub mod Taking
+pub mod SettlingSteps
+pub mod Settling
+pub mod Keys

@@ -1,0 +1,5 @@
+-- What holds of whole histories.
+pub mod Law
+pub mod Orderings
+pub mod Updates
+pub mod Printable

@@ -1,0 +1,4 @@
+-- What a replica logs.
+pub mod Orders
+pub mod Tallying
+pub mod LeastLogged

@@ -1,0 +1,195 @@
+-- How a run by the rules and the facts of its history belong together.
+use Rattle.std.proofs.Common.{◌≡◌, ◌<◌, ◌≤◌, ◌+◌, ◌==◌, ℕ, true, false, List, [], ◌∷◌, length, find, Option, Some, None}
+use Rattle.std.specs.List.{slice_get}
+use Rattle.std.specs.Option.{option_map}
+use Rattle.lr_base.specs.Fronts.{FrontState}
+use Rattle.lr_base.specs.Kinds.{IsUpdate, has_rules}
+use Rattle.lr_base.specs.Meaning.{Meaning}
+use Rattle.lr_base.specs.Replicas.{ReplicaState}
+use Rattle.lr_base.specs.Rules.{CausalState, same_cid}
+use Rattle.lr_base.specs.Stamps.{part}
+use Rattle.lr_base.specs.declared.acts.Posted.{Posted}
+use Rattle.lr_base.specs.declared.messages.Call.{Call}
+use Rattle.lr_base.specs.declared.messages.Gossip.{Gossip}
+use Rattle.lr_base.specs.declared.messages.Known.{Known}
+use Rattle.lr_base.specs.declared.messages.Message.{Message}
+use Rattle.lr_base.specs.declared.messages.Message.TheVariants.{Update, Query, Done, Answer, Gossip as GossipMessage}
+use Rattle.lr_base.specs.declared.names.Actor.{Actor}
+use Rattle.lr_base.specs.declared.names.Actor.TheVariants.{Client, Replica}
+use Rattle.lr_base.specs.declared.names.Cid.{Cid}
+use Rattle.lr_base.specs.declared.names.Config.{Config}
+use Rattle.lr_base.specs.declared.names.Spot.{Spot}
+use Rattle.lr_graph.specs.Closed.{Each, IsAmong, IsAccepted, IsSetOf, IsSound, causes}
+use Rattle.lr_graph.specs.Graph.{Acceptance, AnswerReply, GossipOf, Carried, DoneReply, Facts, FrontFacts, Kept, LabelledCall, QueryCopy, SentMessage, UpdateCopy, ready}
+use Rattle.lr_graph.specs.Legal.{logged}
+use Rattle.lr_graph.specs.Names.{IsCounted, Names}
+use Rattle.lr_graph.specs.Runs.{RunState, message_at}
+use Rattle.lr_graph.specs.Sets.{SpotSet}
+use Rattle.lr_graph.proofs.Related.Ties.{HasApplied, IsLogOf}
+
+-- ---- one thing beside another
+
+abbrev pub SameOption : {A B : Type 0} → (A → B → Type 0) → Option A → Option B → Type 0
+SameOption R None None = Unit {0}
+SameOption R (Some a) (Some b) = R a b
+SameOption R _ _ = ⊥
+
+abbrev pub SameList : {A B : Type 0} → (A → B → Type 0) → List A → List B → Type 0
+SameList R [] [] = Unit {0}
+SameList R (a ∷ xs) (b ∷ ys) = R a b × SameList R xs ys
+SameList R _ _ = ⊥
+
+-- ---- calls and messages
+
+-- a call by the rules is this call of the graph
+pub record SameCall {Op : Type 0} (l : List (Acceptance Op)) (c : LabelledCall Op) (d : Call Op) : Type 0 where
+  pub cid : c.cid ≡ d.cid
+  pub op : c.op ≡ d.op
+  pub names : Names d.prev c.label
+  pub set : IsSetOf l c.label
+
+-- this is the call that was issued under its name, by a client that there is
+pub record IsIssued {Op : Type 0} (clients : ℕ) (issued : Cid → Option (LabelledCall Op)) (calls : ℕ → ℕ) (c : LabelledCall Op) : Type 0 where
+  pub is : issued c.cid ≡ Some c
+  pub number : c.cid.seq ≤ calls c.cid.client
+  pub client : c.cid.client < clients
+
+-- gossip counts the acceptances that it names; its log has some of them, and the rest were received everywhere
+pub record SameGossip {Op : Type 0} (replicas : ℕ) (l : List (Acceptance Op)) (received : ℕ → SpotSet) (names : SpotSet) (g : Gossip Op) : Type 0 where
+  pub logs : SpotSet
+  pub counted : IsCounted names g.rep_ts
+  pub exist : (s : Spot) → names s ≡ true → IsAccepted l s
+  pub log : IsLogOf l logs g.updates
+  pub within : (s : Spot) → logs s ≡ true → names s ≡ true
+  pub elsewhere : (s : Spot) → names s ≡ true → logs s ≡ false → (j : ℕ) → j < replicas → received j s ≡ true
+  pub acks : g.acks ≡ []
+  pub parts : length g.rep_ts ≡ replicas + 1
+
+-- a message of the rules carries what this one of the graph does
+pub data SameCarried {Value Op : Type 0} (m : Meaning Value Op) (config : Config) (l : List (Acceptance Op)) (received : ℕ → SpotSet) (issued : Cid → Option (LabelledCall Op)) (calls : ℕ → ℕ) : Carried Op → Message Op → Type 0 where
+  same_update : (c : LabelledCall Op) (d : Call Op) (t time : ℕ) → SameCall l c d → t ≡ time → IsIssued config.clients issued calls c → IsUpdate (m.kind c.op) → has_rules (m.kind c.op) ≡ true → SameCarried m config l received issued calls (UpdateCopy c t) (Update d time)
+  same_query : (c : LabelledCall Op) (d : Call Op) → SameCall l c d → IsIssued config.clients issued calls c → SameCarried m config l received issued calls (QueryCopy c) (Query d)
+  same_done : (cid other : Cid) (names : SpotSet) (spot : Spot) (stamp : List ℕ) → cid ≡ other → Names stamp names → IsSetOf l names → SameCarried m config l received issued calls (DoneReply cid names) (Done other spot stamp)
+  same_answer : (cid other : Cid) (names : SpotSet) (text stamp : List ℕ) → cid ≡ other → Names stamp names → IsSetOf l names → SameCarried m config l received issued calls (AnswerReply cid names) (Answer other text stamp)
+  same_gossip : (names : SpotSet) (g : Gossip Op) → SameGossip config.replicas l received names g → SameCarried m config l received issued calls (GossipOf names) (GossipMessage g)
+
+-- such a message goes from such an actor to such a one: gossip from a replica to another
+abbrev pub IsWay : {Op : Type 0} → Actor → Actor → Carried Op → Type 0
+IsWay (Client f) (Replica i) (UpdateCopy c t) = Unit {0}
+IsWay (Client f) (Replica i) (QueryCopy c) = Unit {0}
+IsWay (Replica i) (Client f) (DoneReply cid names) = Unit {0}
+IsWay (Replica i) (Client f) (AnswerReply cid names) = Unit {0}
+IsWay (Replica k) (Replica i) (GossipOf names) = (k == i) ≡ false
+IsWay _ _ _ = ⊥
+
+-- there is such an actor
+abbrev pub IsThere : Config → Actor → Type 0
+IsThere config (Client client) = client < config.clients
+IsThere config (Replica replica) = replica < config.replicas
+
+-- a message of the rules is this one of the graph
+pub record SameMessage {Value Op : Type 0} (m : Meaning Value Op) (config : Config) (l : List (Acceptance Op)) (received : ℕ → SpotSet) (issued : Cid → Option (LabelledCall Op)) (calls : ℕ → ℕ) (x : SentMessage Op) (p : Posted Op) : Type 0 where
+  pub from : x.from ≡ p.from
+  pub to : x.to ≡ p.to
+  pub way : IsWay x.from x.to x.what
+  pub there : IsThere config x.to
+  pub what : SameCarried m config l received issued calls x.what p.message
+
+-- ---- front ends
+
+-- an open call is one that was issued
+abbrev pub IsOpen : {Op : Type 0} → ℕ → (Cid → Option (LabelledCall Op)) → (ℕ → ℕ) → Option (LabelledCall Op) → Type 0
+IsOpen clients issued calls None = Unit {0}
+IsOpen clients issued calls (Some c) = IsIssued clients issued calls c
+
+-- a front end by the rules is this one of the graph
+pub record SameFront {Op : Type 0} (l : List (Acceptance Op)) (client : ℕ) (a : FrontFacts Op) (f : FrontState) : Type 0 where
+  pub client_is : f.client ≡ client
+  pub calls : a.calls ≡ f.calls
+  pub clock : a.clock ≡ f.clock
+  pub open_call : option_map (λ c. c.cid) a.open_call ≡ f.open_call
+  pub names : Names f.label a.label
+  pub set : IsSetOf l a.label
+
+-- the rules have this front end in its place
+abbrev pub HasFront : {Op : Type 0} → List (Acceptance Op) → List FrontState → ℕ → FrontFacts Op → Type 0
+HasFront l fronts client a = (f : FrontState) × (slice_get fronts client ≡ Some f) × SameFront l client a f
+
+-- ---- acceptances
+
+-- an acceptance is that of an issued call, at a replica that there is
+pub record IsAcceptance {Value Op : Type 0} (m : Meaning Value Op) (config : Config) (issued : Cid → Option (LabelledCall Op)) (calls : ℕ → ℕ) (a : Acceptance Op) : Type 0 where
+  pub call : LabelledCall Op
+  pub is : issued a.cid ≡ Some call
+  pub op : a.op ≡ call.op
+  pub label : (s : Spot) → causes a s ≡ call.label s
+  pub number : a.cid.seq ≤ calls a.cid.client
+  pub client : a.cid.client < config.clients
+  pub place : a.spot.place < config.replicas
+  pub update : IsUpdate (m.kind a.op)
+  pub plain : has_rules (m.kind a.op) ≡ true
+
+-- how many calls each front end made
+abbrev pub calls_in : {Op : Type 0} → Facts Op → ℕ → ℕ
+calls_in w client = (w.front client).calls
+
+-- what acceptances, front ends and messages keep, whatever a replica is at
+pub record IsShared {Value Op : Type 0} (m : Meaning Value Op) (config : Config) (issued : Cid → Option (LabelledCall Op)) (w : Facts Op) (fronts : List FrontState) (posted : List (Posted Op)) : Type 0 where
+  pub sound : IsSound w.accepted
+  pub each : Each (IsAcceptance m config issued (calls_in w)) w.accepted
+  pub own : (a : Acceptance Op) → IsAmong a w.accepted → w.received a.spot.place a.spot ≡ true
+  pub exist : (i : ℕ) (s : Spot) → w.received i s ≡ true → IsAccepted w.accepted s
+  pub fronts_are : (client : ℕ) → client < config.clients → HasFront w.accepted fronts client (w.front client)
+  pub opened : (client : ℕ) → IsOpen config.clients issued (calls_in w) (w.front client).open_call
+  pub count : length w.messages ≡ length posted
+  pub messages : (n : ℕ) → SameOption (SameMessage m config w.accepted w.received issued (calls_in w)) (find (λ x. x.number == n) w.messages) (message_at posted n)
+
+-- ---- replicas
+
+-- no call is in the table twice
+abbrev pub HasApartKeys : List (Cid × Known) → Type 0
+HasApartKeys [] = Unit {0}
+HasApartKeys (e ∷ calls) = Each (λ other. same_cid e.0 other.0 ≡ false) calls × HasApartKeys calls
+
+-- what no causal update changes
+pub record IsStill {Value Op : Type 0} (config : Config) (state : CausalState Value Op) : Type 0 where
+  pub clock : state.clock ≡ 0
+  pub acks : state.acks ≡ []
+  pub imm : (place : ℕ) → part state.imm_ts place ≡ 0
+  pub parts : length state.rep_ts ≡ config.replicas + 1
+  pub keys : HasApartKeys state.calls
+
+-- a held query, of a client that there is
+pub record SameHeld {Op : Type 0} (clients : ℕ) (l : List (Acceptance Op)) (c : LabelledCall Op) (d : Call Op) : Type 0 where
+  pub call : SameCall l c d
+  pub client : c.cid.client < clients
+
+-- a replica between two steps: all that is ready is applied, and the log has what it is to have
+pub record IsReplicaAt {Value Op : Type 0} (m : Meaning Value Op) (config : Config) (l : List (Acceptance Op)) (r g : SpotSet) (kept : List Kept) (held : List (LabelledCall Op)) (state : CausalState Value Op) : Type 0 where
+  pub counted : IsCounted r state.rep_ts
+  pub log : IsLogOf l g state.updates
+  pub covered : Each (λ a. r a.spot ≡ true → ready l r a.spot ≡ false → g a.spot ≡ true) l
+  pub within : (s : Spot) → g s ≡ true → r s ≡ true
+  pub applied : HasApplied m l (ready l r) kept state
+  pub still : IsStill config state
+  pub held_are : SameList (SameHeld config.clients l) held state.held
+
+-- the rules have a replica of this number in its place, in this state
+pub record HasReplica {Value Op : Type 0} (config : Config) (replicas : List (ReplicaState Value Op)) (i : ℕ) (state : CausalState Value Op) : Type 0 where
+  pub replica : ReplicaState Value Op
+  pub there : slice_get replicas i ≡ Some replica
+  pub setting : replica.config ≡ config
+  pub number : replica.me ≡ i
+  pub state_is : replica.causal ≡ state
+
+-- a replica of the run and what the graph knows of it
+abbrev pub IsTied : {Value Op : Type 0} → Meaning Value Op → Config → Facts Op → List (ReplicaState Value Op) → ℕ → Type 0
+IsTied {Value} {Op} m config w replicas i =
+    (state : CausalState Value Op) × HasReplica config replicas i state
+    × IsReplicaAt m config w.accepted (w.received i) (logged config w i) (w.kept i) (w.held i) state
+
+-- a run and the facts of its history
+pub record IsSame {Value Op : Type 0} (m : Meaning Value Op) (config : Config) (w : Facts Op) (v : RunState Value Op) : Type 0 where
+  pub issued : Cid → Option (LabelledCall Op)
+  pub shared : IsShared m config issued w v.fronts v.posted
+  pub replicas : (i : ℕ) → i < config.replicas → IsTied m config w v.replicas i

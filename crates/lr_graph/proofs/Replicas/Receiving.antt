@@ -1,0 +1,261 @@
+-- What a message itself does at a replica: a query that is held, and an update that is accepted.
+use Rattle.std.proofs.Common.{◌≡◌, ◌≢◌, ℕ, ◌+◌, ◌<◌, Bool, true, false, cond, not, ◌&&◌, ◌||◌, ◌==◌, ◌⊎◌, inl, inr, find, List, [], ◌∷◌, ◌++◌, length, Option, Some, None, refl, sym, ap, ◌∙◌, subst, arith, eqb-true}
+use Rattle.std.proofs.lemmas.List.{append-nil}
+use Rattle.lr_base.specs.Kinds.{IsUpdate, has_rules}
+use Rattle.lr_base.specs.Meaning.{Meaning}
+use Rattle.lr_base.specs.Rules.{CausalState, accepted, held_more, stamp_of, update_of_call}
+use Rattle.lr_base.specs.Stamps.{part}
+use Rattle.lr_base.specs.Steps.{done_act}
+use Rattle.lr_base.specs.declared.acts.Act.TheVariants.{Say}
+use Rattle.lr_base.specs.declared.acts.Posted.{Posted}
+use Rattle.lr_base.specs.declared.events.Outcome.TheVariants.{Accept, Hold, Send}
+use Rattle.lr_base.specs.declared.events.Sent.TheVariants.{Done as DoneSent}
+use Rattle.lr_base.specs.declared.messages.Call.{Call}
+use Rattle.lr_base.specs.declared.messages.Message.{Message}
+use Rattle.lr_base.specs.declared.messages.Message.TheVariants.{Done}
+use Rattle.lr_base.specs.declared.names.Actor.{Actor}
+use Rattle.lr_base.specs.declared.names.Actor.TheVariants.{Client, Replica}
+use Rattle.lr_base.specs.declared.names.Cid.{Cid}
+use Rattle.lr_base.specs.declared.names.Config.{Config}
+use Rattle.lr_base.specs.declared.names.Spot.{Spot}
+use Rattle.lr_graph.specs.Closed.{IsAmong, IsAccepted, IsSetOf, IsSound}
+use Rattle.lr_graph.specs.Graph.{Acceptance, Carried, DoneReply, Facts, LabelledCall, QueryCopy, SentMessage, UpdateCopy, below_of, ready}
+use Rattle.lr_graph.specs.Legal.{done_line, logged, next_number}
+use Rattle.lr_graph.specs.Names.{Names, spot_at}
+use Rattle.lr_graph.specs.Runs.{RunState, message_at}
+use Rattle.lr_graph.specs.Sets.{SpotSet, only, put_at, same_spot, ◌∪◌}
+use Rattle.lr_graph.proofs.Replicas.Accepting.{accept-pending, made_at, new-causes, new-stands, next-fresh, sound-more}
+use Rattle.lr_graph.proofs.Stamps.Central.{below-set}
+use Rattle.lr_graph.proofs.Replicas.Ending.{IsMid}
+use Rattle.lr_graph.proofs.Related.More.{call-more, held-more, log-more, not-in, replica-more, set-more}
+use Rattle.lr_graph.proofs.Replicas.Own.{unchanged-mid}
+use Rattle.lr_graph.proofs.Replicas.Posting.{message-sent, posting}
+use Rattle.lr_graph.proofs.Sets.ReadySets.{update-stamp}
+use Rattle.lr_graph.proofs.Related.Relation.{IsAcceptance, IsIssued, IsReplicaAt, IsShared, IsTied, SameCall, SameCarried, SameHeld, SameList, SameMessage, SameOption, calls_in, same_answer, same_done, same_gossip, same_query, same_update}
+use Rattle.lr_graph.proofs.Replicas.Stepping.{IsOwnPart, put-other, put-same}
+use Rattle.lr_graph.proofs.Lists.Tests.{or-cases, or-left, or-right, same_spot-is, same_spot-self}
+use Rattle.lr_graph.proofs.Related.Ties.{IsPending}
+
+-- ---- a query is held
+
+same-held-behind : {Op : Type 0} (clients : ℕ) (l : List (Acceptance Op)) (cs : List (LabelledCall Op)) (ds : List (Call Op)) (c : LabelledCall Op) (d : Call Op) → SameList (SameHeld clients l) cs ds → SameHeld clients l c d
+    → SameList (SameHeld clients l) (cs ++ c ∷ []) (ds ++ d ∷ [])
+same-held-behind clients l [] [] c d h k = (k, tt)
+same-held-behind clients l [] (e ∷ ds) c d h k = absurd h
+same-held-behind clients l (b ∷ cs) [] c d h k = absurd h
+same-held-behind clients l (b ∷ cs) (e ∷ ds) c d h k = (h.0, same-held-behind clients l cs ds c d h.1 k)
+
+module _ {Value Op : Type 0} (m : Meaning Value Op) (config : Config) (issued : Cid → Option (LabelledCall Op)) (w : Facts Op) (v : RunState Value Op) (shared : IsShared m config issued w v.fronts v.posted)
+    (i : ℕ) (here : i < config.replicas) (state : CausalState Value Op) (ok : IsReplicaAt m config w.accepted (w.received i) (logged config w i) (w.kept i) (w.held i) state)
+    (others : (j : ℕ) → j ≢ i → j < config.replicas → IsTied m config w v.replicas j) (number : ℕ) (from : Actor) where
+  abbrev asked : LabelledCall Op → Option (SentMessage Op)
+  asked c = Some (record { number = number; from = from; to = Replica i; what = QueryCopy c })
+
+  pub own-held : (c : LabelledCall Op) (d : Call Op) → SameCall w.accepted c d → c.cid.client < config.clients
+      → IsOwnPart m config issued w v i (asked c) (Hold c.cid ∷ []) (record { state = held_more state d; acts = Say (Hold d.cid) ∷ [] })
+  own-held c d same client = record {
+    lines = λ k. Hold (same.cid k) ∷ [];
+    shared = let s = shared in record {
+      sound = s.sound;
+      each = s.each;
+      own = s.own;
+      exist = s.exist;
+      fronts_are = s.fronts_are;
+      opened = s.opened;
+      count = s.count ∙ ap length (sym (append-nil v.posted));
+      messages = subst (λ (ps : List (Posted Op)). (n : ℕ) → SameOption (SameMessage m config w.accepted w.received issued (calls_in w)) (find (λ y. y.number == n) w.messages) (message_at ps n)) (sym (append-nil v.posted)) s.messages;
+    };
+    mid = let mid = unchanged-mid m config w i state shared.sound ok in record {
+      logs = mid.logs;
+      done = mid.done;
+      pending = record {
+        counted = mid.pending.counted;
+        log = mid.pending.log;
+        received = mid.pending.received;
+        covered = mid.pending.covered;
+        within = mid.pending.within;
+        flagged = mid.pending.flagged;
+        applied = record { names = mid.pending.applied.names; value_is = mid.pending.applied.value_is; table = mid.pending.applied.table };
+      };
+      still = record { clock = mid.still.clock; acks = mid.still.acks; imm = mid.still.imm; parts = mid.still.parts; keys = mid.still.keys };
+      held_are = subst (λ (cs : List (LabelledCall Op)). SameList (SameHeld config.clients w.accepted) cs (state.held ++ d ∷ [])) (sym (put-same i (w.held i ++ c ∷ []) w.held))
+          (same-held-behind config.clients w.accepted (w.held i) state.held c d ok.held_are (record { call = same; client = client }));
+      all_logged = mid.all_logged;
+    };
+    others = λ j apart within. (let old = others j apart within in (
+      old.0,
+      old.1,
+      subst (λ (cs : List (LabelledCall Op)). IsReplicaAt m config w.accepted (w.received j) (logged config w j) (w.kept j) cs old.0) (sym (put-other i j (w.held i ++ c ∷ []) w.held apart)) old.2,
+    ));
+  }
+
+-- ---- an update is accepted
+
+module _ {Value Op : Type 0} (m : Meaning Value Op) (config : Config) (issued : Cid → Option (LabelledCall Op)) (w : Facts Op) (v : RunState Value Op) (shared : IsShared m config issued w v.fronts v.posted)
+    (i : ℕ) (here : i < config.replicas) (state : CausalState Value Op) (ok : IsReplicaAt m config w.accepted (w.received i) (logged config w i) (w.kept i) (w.held i) state)
+    (others : (j : ℕ) → j ≢ i → j < config.replicas → IsTied m config w v.replicas j)
+    (c : LabelledCall Op) (d : Call Op) (same : SameCall w.accepted c d) (is_issued : IsIssued config.clients issued (calls_in w) c) (update : IsUpdate (m.kind c.op)) (plain : has_rules (m.kind c.op) ≡ true) where
+  abbrev l : List (Acceptance Op)
+  l = w.accepted
+
+  own_at : (b : Acceptance Op) → IsAmong b l → b.spot.place ≡ i → w.received i b.spot ≡ true
+  own_at b member place = ap (λ k. w.received k b.spot) (sym place) ∙ shared.own b member
+
+  abbrev pub spot : Spot
+  spot = spot_at i (part state.rep_ts i + 1)
+
+  fresh : IsAccepted l spot → ⊥
+  fresh = next-fresh m config l shared.sound (w.received i) (logged config w i) (w.kept i) (w.held i) state ok i own_at (shared.exist i)
+
+  abbrev some : 0 < part state.rep_ts i + 1
+  some = omega arith
+
+  abbrev a : Acceptance Op
+  a = made_at l shared.sound spot fresh some c.cid c.op c.label same.set
+
+  sound : IsSound (a ∷ l)
+  sound = sound-more l shared.sound spot fresh some c.cid c.op c.label same.set
+
+  abbrev w1 : Facts Op
+  w1 = record w { accepted = a ∷ l; received = put_at i (w.received i ∪ only spot) w.received }
+
+  new_one : IsAcceptance m config issued (calls_in w) a
+  new_one = record {
+    call = c;
+    is = is_issued.is;
+    op = refl;
+    label = new-causes l shared.sound spot fresh some c.cid c.op c.label same.set;
+    number = is_issued.number;
+    client = is_issued.client;
+    place = here;
+    update = update;
+    plain = plain;
+  }
+
+  received-grows : (j : ℕ) (s : Spot) → w.received j s ≡ true → w1.received j s ≡ true
+  received-grows j s e = by_place (j == i) refl
+    where
+      by_place : (t : Bool) → (j == i) ≡ t → cond t (w.received i ∪ only spot) (w.received j) s ≡ true
+      by_place true q = or-left (w.received i s) _ (ap (λ k. w.received k s) (sym (eqb-true j i q)) ∙ e)
+      by_place false q = e
+
+  carried-more : (x : Carried Op) (p : Message Op) → SameCarried m config l w.received issued (calls_in w) x p → SameCarried m config (a ∷ l) w1.received issued (calls_in w) x p
+  carried-more x p (same_update e f t time call times by update plain) = same_update e f t time (call-more l a fresh shared.sound e f call) times by update plain
+  carried-more x p (same_query e f call by) = same_query e f (call-more l a fresh shared.sound e f call) by
+  carried-more x p (same_done cid other names at stamp cids named set) = same_done cid other names at stamp cids named (set-more l a fresh shared.sound names set)
+  carried-more x p (same_answer cid other names text stamp cids named set) = same_answer cid other names text stamp cids named (set-more l a fresh shared.sound names set)
+  carried-more x p (same_gossip names g h) = same_gossip names g (record {
+    logs = h.logs;
+    counted = h.counted;
+    exist = λ s e. (let b = h.exist s e in (b.0, inr b.1, b.2));
+    log = log-more l a fresh h.logs g.updates (not-in l a fresh h.logs (λ s e. h.exist s (h.within s e))) h.log;
+    within = h.within;
+    elsewhere = λ s e out j within. received-grows j s (h.elsewhere s e out j within);
+    acks = h.acks;
+    parts = h.parts;
+  })
+
+  option-more : (o : Option (SentMessage Op)) (p : Option (Posted Op)) → SameOption (SameMessage m config l w.received issued (calls_in w)) o p → SameOption (SameMessage m config (a ∷ l) w1.received issued (calls_in w)) o p
+  option-more None None h = tt
+  option-more None (Some p) h = h
+  option-more (Some x) None h = h
+  option-more (Some x) (Some p) h = record { from = h.from; to = h.to; way = h.way; there = h.there; what = carried-more x.what p.message h.what }
+
+  shared_accepted : IsShared m config issued w1 v.fronts v.posted
+  shared_accepted = record {
+    sound = sound;
+    each = (new_one, shared.each);
+    own = own_all;
+    exist = exist_all;
+    fronts_are = λ client within. (let f = shared.fronts_are client within in (
+      f.0,
+      f.1,
+      record {
+        client_is = f.2.client_is;
+        calls = f.2.calls;
+        clock = f.2.clock;
+        open_call = f.2.open_call;
+        names = f.2.names;
+        set = set-more l a fresh shared.sound (w.front client).label f.2.set;
+      },
+    ));
+    opened = shared.opened;
+    count = shared.count;
+    messages = λ n. option-more (find (λ y. y.number == n) w.messages) (message_at v.posted n) (shared.messages n);
+  }
+    where
+      own_all : (b : Acceptance Op) → IsAmong b (a ∷ l) → w1.received b.spot.place b.spot ≡ true
+      own_all b (inl e) = subst (λ (x : Acceptance Op). w1.received x.spot.place x.spot ≡ true) (sym e)
+          (ap (λ (r : SpotSet). r spot) (put-same i (w.received i ∪ only spot) w.received) ∙ or-right (w.received i spot) _ (same_spot-self spot))
+      own_all b (inr member) = received-grows b.spot.place b.spot (shared.own b member)
+
+      exist_all : (j : ℕ) (s : Spot) → w1.received j s ≡ true → IsAccepted (a ∷ l) s
+      exist_all j s e = by_place (j == i) refl e
+        where
+          made : (k : ℕ) → w.received k s ≡ true → IsAccepted (a ∷ l) s
+          made k h = let b = shared.exist k s h in (b.0, inr b.1, b.2)
+
+          by_place : (t : Bool) → (j == i) ≡ t → cond t (w.received i ∪ only spot) (w.received j) s ≡ true → IsAccepted (a ∷ l) s
+          by_place false q h = made j h
+          by_place true q h = by_part (or-cases (w.received i s) _ h)
+            where
+              by_part : (w.received i s ≡ true) ⊎ (same_spot s spot ≡ true) → IsAccepted (a ∷ l) s
+              by_part (inl k) = made i k
+              by_part (inr k) = (a, inl refl, sym (same_spot-is s spot k))
+
+  abbrev after_it : CausalState Value Op
+  after_it = accepted i state d
+
+  abbrev sent : SentMessage Op
+  sent = record { number = next_number w; from = Replica i; to = Client c.cid.client; what = DoneReply c.cid (below_of w1.accepted spot) }
+
+  abbrev stamp : List ℕ
+  stamp = stamp_of (update_of_call i state d)
+
+  below_is : below_of w1.accepted spot ≡ a.below
+  below_is = ap (λ t. cond t a.below (below_of l spot)) (same_spot-self spot)
+
+  stamp_names : Names stamp a.below
+  stamp_names = update-stamp (a ∷ l) sound (update_of_call i state d) a
+      (new-stands m config l shared.sound (w.received i) (logged config w i) (w.kept i) (w.held i) state ok i own_at (shared.exist i) d c.label same.names same.set c.op (sym same.op) c.cid (sym same.cid))
+
+  shared_sent : IsShared m config issued (record w1 { messages = sent ∷ w.messages }) v.fronts (v.posted ++ posting (Replica i) (Client d.cid.client) (Done d.cid spot stamp) ∷ [])
+  shared_sent = message-sent m config issued w1 v.fronts v.posted shared_accepted sent (posting (Replica i) (Client d.cid.client) (Done d.cid spot stamp)) (let n = shared.count in omega arith)
+      (record { from = refl; to = ap (λ (cid : Cid). Client cid.client) same.cid; way = tt; there = is_issued.client; what = same_done c.cid d.cid (below_of w1.accepted spot) spot stamp same.cid (subst (Names stamp) (sym below_is) stamp_names) (subst (λ (y : SpotSet). IsSetOf (a ∷ l) y) (sym below_is) (below-set (a ∷ l) sound a (inl refl))) })
+
+  mid_accepted : IsMid m config (record w1 { messages = sent ∷ w.messages }) i after_it
+  mid_accepted = record {
+    logs = logged config w i ∪ only spot;
+    done = ready l (w.received i);
+    pending = subst (λ (r : SpotSet). IsPending m (a ∷ l) r (logged config w i ∪ only spot) (ready l (w.received i)) (w.kept i) after_it) (sym (put-same i (w.received i ∪ only spot) w.received))
+        (accept-pending m config l shared.sound (w.received i) (logged config w i) (w.kept i) (w.held i) state ok i own_at (shared.exist i) d c.label same.names same.set c.op (sym same.op) c.cid (sym same.cid));
+    still = record { clock = ok.still.clock; acks = ok.still.acks; imm = ok.still.imm; parts = parts_stay; keys = ok.still.keys };
+    held_are = held-more l a fresh shared.sound config.clients (w.held i) state.held ok.held_are;
+    all_logged = λ several s. ap (λ t. (not t && w.received i s) || same_spot s spot) several ∙ ap (λ (r : SpotSet). r s) (sym (put-same i (w.received i ∪ only spot) w.received));
+  }
+    where
+      parts_stay : length after_it.rep_ts ≡ config.replicas + 1
+      parts_stay = Rattle.lr_base.specs.StampLaws.length-set_part state.rep_ts i (part state.rep_ts i + 1) (let p = ok.still.parts in omega arith) ∙ ok.still.parts
+
+  others_stay : (j : ℕ) → j ≢ i → j < config.replicas → IsTied m config (record w1 { messages = sent ∷ w.messages }) v.replicas j
+  others_stay j apart within =
+      let old = others j apart within in
+      let lacks : w.received j spot ≡ false = not-in l a fresh (w.received j) (shared.exist j) in (
+        old.0,
+        old.1,
+        subst (λ (r : SpotSet). IsReplicaAt m config (a ∷ l) r (λ s. not (config.replicas == 1) && r s) (w.kept j) (w.held j) old.0) (sym (put-other i j (w.received i ∪ only spot) w.received apart))
+            (replica-more l a fresh m config shared.sound (w.received j) (logged config w j) (w.kept j) (w.held j) old.0 lacks old.2),
+      )
+
+  pub own-accepted : (number : ℕ) (from : Actor) (time : ℕ)
+      → IsOwnPart m config issued w v i (Some (record { number = number; from = from; to = Replica i; what = UpdateCopy c time })) (Accept spot c.cid ∷ done_line w i c.cid spot ∷ [])
+      (record { state = after_it; acts = Say (Accept spot d.cid) ∷ done_act d.cid spot stamp ∷ [] })
+  own-accepted number from time = record {
+    lines = λ k. Accept spot (same.cid k) ∷ Send (next_is k) (Replica i) (Client (same.cid k).client) (DoneSent (same.cid k) spot) ∷ [];
+    shared = shared_sent;
+    mid = mid_accepted;
+    others = others_stay;
+  }
+    where
+      next_is : next_number w ≡ length v.posted + 1
+      next_is = let n = shared.count in omega arith

@@ -1,0 +1,4 @@
+-- The state line of a replica.
+pub mod Listing
+pub mod CallLists
+pub mod Shown

@@ -1,0 +1,138 @@
+-- Facts without what replicas hold and keep change by themselves.
+use Rattle.std.proofs.Common.{◌≡◌, ℕ, ◌+◌, ◌<◌, List, [], ◌∷◌, ◌++◌, Option, Some, None, length, take, take-suc, get_or, add-one, refl, sym, ap, ◌∙◌}
+use Rattle.lr_base.specs.declared.events.Event.{Event}
+use Rattle.lr_base.specs.declared.events.Event.TheVariants.{Call, Deliver, Gossip as GossipEvent, Show}
+use Rattle.lr_base.specs.declared.events.Outcome.{Outcome}
+use Rattle.lr_base.specs.declared.events.Outcome.TheVariants.{Send, Accept, Hold, Take, Got, Stale, NoMessage, Refuse, State}
+use Rattle.lr_base.specs.declared.events.Sent.{Sent}
+use Rattle.lr_base.specs.declared.events.Sent.TheVariants.{Update, Query, Done, Answer, Gossip}
+use Rattle.lr_base.specs.declared.events.Step.{Step}
+use Rattle.lr_base.specs.declared.names.Actor.{Actor}
+use Rattle.lr_base.specs.declared.names.Actor.TheVariants.{Client, Replica}
+use Rattle.lr_base.specs.declared.names.Spot.{Spot}
+use Rattle.lr_graph.specs.After.{accept_read, after, carried, delivery_of, event_read, got_read, hold_read, line_read, lines_read, step_ended, stepping, take_read}
+use Rattle.lr_graph.specs.Central.{facts_after}
+use Rattle.lr_graph.specs.Graph.{Carried, Facts, SentMessage, UpdateCopy, QueryCopy, DoneReply, AnswerReply, GossipOf, Blank}
+use Rattle.lr_graph.specs.Told.{bare}
+
+module _ {Op : Type 0} where
+  bare-carried : (w : Facts Op) (from : Actor) (what : Sent) → carried (bare w) from what ≡ carried w from what
+  bare-carried w (Replica i) (Update cid time) = refl
+  bare-carried w (Client c) (Update cid time) = refl
+  bare-carried w (Replica i) (Query cid) = refl
+  bare-carried w (Client c) (Query cid) = refl
+  bare-carried w (Replica i) (Done cid spot) = refl
+  bare-carried w (Client c) (Done cid spot) = refl
+  bare-carried w (Replica i) (Answer cid text) = refl
+  bare-carried w (Client c) (Answer cid text) = refl
+  bare-carried w (Replica i) Gossip = refl
+  bare-carried w (Client c) Gossip = refl
+
+  bare-accept : (w : Facts Op) (spot : Spot) (to : Actor) (what : Carried Op) → bare (accept_read (bare w) spot to what) ≡ bare (accept_read w spot to what)
+  bare-accept w spot (Client c) what = refl
+  bare-accept w spot (Replica i) (UpdateCopy call time) = refl
+  bare-accept w spot (Replica i) (QueryCopy call) = refl
+  bare-accept w spot (Replica i) (DoneReply cid names) = refl
+  bare-accept w spot (Replica i) (AnswerReply cid names) = refl
+  bare-accept w spot (Replica i) (GossipOf names) = refl
+  bare-accept w spot (Replica i) Blank = refl
+
+  bare-hold : (w : Facts Op) (to : Actor) (what : Carried Op) → bare (hold_read (bare w) to what) ≡ bare (hold_read w to what)
+  bare-hold w (Client c) what = refl
+  bare-hold w (Replica i) (UpdateCopy call time) = refl
+  bare-hold w (Replica i) (QueryCopy call) = refl
+  bare-hold w (Replica i) (DoneReply cid names) = refl
+  bare-hold w (Replica i) (AnswerReply cid names) = refl
+  bare-hold w (Replica i) (GossipOf names) = refl
+  bare-hold w (Replica i) Blank = refl
+
+  bare-take : (w : Facts Op) (to : Actor) (what : Carried Op) → bare (take_read (bare w) to what) ≡ bare (take_read w to what)
+  bare-take w (Client c) what = refl
+  bare-take w (Replica i) (UpdateCopy call time) = refl
+  bare-take w (Replica i) (QueryCopy call) = refl
+  bare-take w (Replica i) (DoneReply cid names) = refl
+  bare-take w (Replica i) (AnswerReply cid names) = refl
+  bare-take w (Replica i) (GossipOf names) = refl
+  bare-take w (Replica i) Blank = refl
+
+  bare-got : (w : Facts Op) (to : Actor) (what : Carried Op) → bare (got_read (bare w) to what) ≡ bare (got_read w to what)
+  bare-got w (Replica i) what = refl
+  bare-got w (Client c) (UpdateCopy call time) = refl
+  bare-got w (Client c) (QueryCopy call) = refl
+  bare-got w (Client c) (DoneReply cid names) = refl
+  bare-got w (Client c) (AnswerReply cid names) = refl
+  bare-got w (Client c) (GossipOf names) = refl
+  bare-got w (Client c) Blank = refl
+
+  -- a line changes them alike
+  bare-line : (x : Option (SentMessage Op)) (w : Facts Op) (line : Outcome) → bare (line_read x (bare w) line) ≡ bare (line_read x w line)
+  bare-line x w (Send number from to what) = ap (λ (load : Carried Op). bare (record w { messages = record { number = number; from = from; to = to; what = load } ∷ w.messages })) (bare-carried w from what)
+  bare-line None w (Accept spot cid) = refl
+  bare-line (Some x) w (Accept spot cid) = bare-accept w spot x.to x.what
+  bare-line None w (Hold cid) = refl
+  bare-line (Some x) w (Hold cid) = bare-hold w x.to x.what
+  bare-line None w (Take count) = refl
+  bare-line (Some x) w (Take count) = bare-take w x.to x.what
+  bare-line None w (Got cid) = refl
+  bare-line (Some x) w (Got cid) = bare-got w x.to x.what
+  bare-line x w (Stale cid) = refl
+  bare-line x w (NoMessage message) = refl
+  bare-line x w (Refuse why) = refl
+  bare-line x w (State line) = refl
+
+  -- and so do several
+  bare-lines : (x : Option (SentMessage Op)) (w : Facts Op) (lines : List Outcome) → bare (lines_read x (bare w) lines) ≡ bare (lines_read x w lines)
+  bare-lines x w [] = refl
+  bare-lines x w (line ∷ lines) =
+      sym (bare-lines x (line_read x (bare w) line) lines) ∙ ap (λ v. bare (lines_read x v lines)) (bare-line x w line) ∙ bare-lines x (line_read x w line) lines
+
+  lines-append : (x : Option (SentMessage Op)) (w : Facts Op) (lines : List Outcome) (line : Outcome) → lines_read x w (lines ++ line ∷ []) ≡ line_read x (lines_read x w lines) line
+  lines-append x w [] line = refl
+  lines-append x w (first ∷ lines) line = lines-append x (line_read x w first) lines line
+
+  -- one more line is read
+  pub line-more : (x : Option (SentMessage Op)) (w before new : Facts Op) (lines : List Outcome) (k : ℕ) (line : Outcome) → k < length lines → line ≡ get_or lines k line
+      → before ≡ bare (lines_read x w (take k lines)) → new ≡ bare (line_read x before line) → new ≡ bare (lines_read x w (take (k + 1) lines))
+  line-more x w before new lines k line within is so_far read =
+      rw (add-one k, take-suc lines k line within, ← is, lines-append x w (take k lines) line)
+      (read ∙ ap (λ v. bare (line_read x v line)) so_far ∙ bare-line x (lines_read x w (take k lines)) line)
+
+  bare-ended : (o : Option ℕ) (w : Facts Op) → bare (step_ended o w) ≡ bare w
+  bare-ended None w = refl
+  bare-ended (Some i) w = refl
+
+  bare-event : (w : Facts Op) (event : Event Op) → bare (event_read (bare w) event) ≡ bare (event_read w event)
+  bare-event w (Call client replica reading op) = refl
+  bare-event w (Deliver message) = refl
+  bare-event w (GossipEvent from to) = refl
+  bare-event w (Show replica) = refl
+
+  bare-delivery : (w : Facts Op) (event : Event Op) → delivery_of (bare w) event ≡ delivery_of w event
+  bare-delivery w (Call client replica reading op) = refl
+  bare-delivery w (Deliver message) = refl
+  bare-delivery w (GossipEvent from to) = refl
+  bare-delivery w (Show replica) = refl
+
+  -- a step changes them by its event and its lines
+  pub bare-step : (w : Facts Op) (step : Step Op) → bare (after w step) ≡ bare (lines_read (delivery_of w step.event) (event_read w step.event) step.outcomes)
+  bare-step w step = bare-ended (stepping w step.event) (lines_read (delivery_of w step.event) (event_read w step.event) step.outcomes)
+
+  bare-after : (w : Facts Op) (step : Step Op) → bare (after (bare w) step) ≡ bare (after w step)
+  bare-after w step =
+      bare-step (bare w) step
+      ∙ ap (λ x. bare (lines_read x (event_read (bare w) step.event) step.outcomes)) (bare-delivery w step.event)
+      ∙ sym (bare-lines (delivery_of w step.event) (event_read (bare w) step.event) step.outcomes)
+      ∙ ap (λ v. bare (lines_read (delivery_of w step.event) v step.outcomes)) (bare-event w step.event)
+      ∙ bare-lines (delivery_of w step.event) (event_read w step.event) step.outcomes
+      ∙ sym (bare-step w step)
+
+  facts-append : (w : Facts Op) (steps : List (Step Op)) (step : Step Op) → facts_after w (steps ++ step ∷ []) ≡ after (facts_after w steps) step
+  facts-append w [] step = refl
+  facts-append w (first ∷ steps) step = facts-append (after w first) steps step
+
+  -- one more step is read
+  pub step-more : (w before new : Facts Op) (steps : List (Step Op)) (k : ℕ) (step : Step Op) → k < length steps → step ≡ get_or steps k step
+      → before ≡ bare (facts_after w (take k steps)) → new ≡ bare (after before step) → new ≡ bare (facts_after w (take (k + 1) steps))
+  step-more w before new steps k step within is so_far read =
+      rw (add-one k, take-suc steps k step within, ← is, facts-append w (take k steps) step)
+      (read ∙ ap (λ v. bare (after v step)) so_far ∙ bare-after (facts_after w (take k steps)) step)
