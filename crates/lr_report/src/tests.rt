@@ -197,7 +197,8 @@ fn the_order_is_the_place_behind_two_replicas(rt: HostRuntime) -> Result<(), Fai
         rt.alloc(),
         TWO_REPLICAS,
         full_state(rt.alloc())?,
-        "state r1 view 0 clock 14 received 1.2.0 log 1:1,1:2,o:3 acks 0:2 calls 0.1,0.2,1.1 held 0.3,0.3 frozen 0/1,2/1",
+        "state r1 view 0 clock 14 received 1.2.0 log 1:1,1:2,o:3 acks 0:2 \
+        calls 0.1,0.2,1.1 held 0.3,0.3 frozen 0/1,2/1",
     )
 }
 
@@ -242,8 +243,8 @@ fn a_history_of_two_events(rt: HostRuntime) -> Result<(), Fail> {
     render_header(&header, &mut out)?;
     render_step::<Tally>(ONE_REPLICA, 1, &called, &mut out)?;
     render_step::<Tally>(ONE_REPLICA, 2, &delivered, &mut out)?;
-    let want =
-        b"lazyrep 1 tally 1 2 10\n1: call 0 0 5 add x 3\n  send 1 c0 r0 update 0.1 at 5\n2: deliver 1\n  accept 0:1 0.1\n  send 2 r0 c0 done 0.1 as 0:1\n";
+    let want = b"lazyrep 1 tally 1 2 10\n1: call 0 0 5 add x 3\n  send 1 c0 r0 update 0.1 at 5\n\
+        2: deliver 1\n  accept 0:1 0.1\n  send 2 r0 c0 done 0.1 as 0:1\n";
     assert!(rt;
         out.as_slice() == want.as_slice(),
         "another history was printed"
