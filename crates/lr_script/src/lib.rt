@@ -8,8 +8,6 @@ mod laws;
 mod lines;
 mod reading;
 mod refusals;
-#[cfg(test)]
-mod tests;
 
 pub use event_lines::print_event;
 pub use heading::{Header, Name};
