@@ -2,6 +2,7 @@
 use Rattle.std.specs.Prelude.{◌≡◌, ◌<◌, ℕ, find, length, ◌&&◌, ◌==◌, max, if◌then◌else◌, List, [], ◌∷◌, Some}
 use Rattle.std.specs.List.{slice_get}
 use Rattle.lr_base.specs.Fronts.{FrontState}
+use Rattle.lr_base.specs.Orders.{IsAmong}
 use Rattle.lr_base.specs.Replicas.{ReplicaState}
 use Rattle.lr_base.specs.Rules.{stamp_of}
 use Rattle.lr_base.specs.Stamps.{part, stamp_le}
@@ -13,7 +14,7 @@ use Rattle.lr_base.specs.declared.messages.Message.TheVariants.{Update, Query, D
 use Rattle.lr_base.specs.declared.names.Config.{Config}
 use Rattle.lr_base.specs.declared.events.Step.{Step}
 use Rattle.lr_graph.specs.After.{after}
-use Rattle.lr_graph.specs.Closed.{Each, IsAmong, IsSetOf, IsSound, causes}
+use Rattle.lr_graph.specs.Closed.{Each, IsSetOf, IsSound, causes}
 use Rattle.lr_graph.specs.Graph.{Acceptance, Carried, Facts, LabelledCall, SentMessage, is_within, ready}
 use Rattle.lr_graph.specs.Graph.{UpdateCopy, QueryCopy, DoneReply, AnswerReply, GossipOf}
 use Rattle.lr_graph.specs.Names.{IsCounted}

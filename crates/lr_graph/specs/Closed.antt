@@ -1,6 +1,6 @@
 -- What holds of acceptances and of sets of them: causes exist, come before, and come along.
 use Rattle.std.specs.Prelude.{◌≡◌, ◌<◌, true, false, not, ◌&&◌, List, [], ◌∷◌}
-pub use Rattle.lr_base.specs.Orders.{IsAmong}
+use Rattle.lr_base.specs.Orders.{IsAmong}
 use Rattle.lr_base.specs.declared.names.Spot.{Spot}
 use Rattle.lr_graph.specs.Graph.{Acceptance}
 use Rattle.lr_graph.specs.Sets.{SpotSet, same_spot}

@@ -1,8 +1,9 @@
 -- Orders of acceptances in which each follows its causes. An order has the newest first, as the graph's own list has.
 use Rattle.std.specs.Prelude.{◌≡◌, ℕ, true, false, List, [], ◌∷◌, filter}
+use Rattle.lr_base.specs.Orders.{IsAmong}
 use Rattle.lr_base.specs.declared.events.Step.{Step}
 use Rattle.lr_graph.specs.Central.{facts_after}
-use Rattle.lr_graph.specs.Closed.{Each, HasApartSpots, IsAmong}
+use Rattle.lr_graph.specs.Closed.{Each, HasApartSpots}
 use Rattle.lr_graph.specs.Graph.{Acceptance, first_facts, ready}
 use Rattle.lr_graph.specs.Sets.{SpotSet}
 

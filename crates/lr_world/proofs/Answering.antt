@@ -1,35 +1,22 @@
--- The end of a step: held queries that are answered, and those that stay.
-use Rattle.std.proofs.Common.{◌≡◌, ◌+◌, ℕ, zero, suc, Bool, true, false, ◌==◌, if◌then◌else◌, List, [], ◌∷◌, ◌++◌, length, refl, sym, ap, ◌∙◌, subst, Result, Ok, Err, OnErr, OnOk, ◌<◌, lt-ltb, take, get_or, append_assoc}
+-- The held queries of a replica: those that are answered, and those that stay.
+use Rattle.std.proofs.Common.{◌≡◌, ◌+◌, ℕ, zero, suc, Bool, true, false, ◌==◌, if◌then◌else◌, List, [], ◌∷◌, ◌++◌, length, refl, sym, ap, ◌∙◌, subst, ◌<◌, take, get_or}
 use Rattle.std.proofs.lemmas.List.{take_more}
 use Rattle.std.specs.Prelude.{filter}
 use Rattle.lr_base.specs.Meaning.{Meaning}
-use Rattle.lr_base.specs.Replicas.{ReplicaState}
 use Rattle.lr_base.specs.Rules.{CausalState, pruned}
 use Rattle.lr_base.specs.Stamps.{stamp_le}
 use Rattle.lr_base.specs.Steps.{answer_act, held_acts}
 use Rattle.lr_base.specs.declared.acts.Act.{Act}
-use Rattle.lr_base.specs.declared.acts.Act.TheVariants.{Send}
 use Rattle.lr_base.specs.declared.lr_service.Kind.{Kind}
 use Rattle.lr_base.specs.declared.messages.Call.{Call}
-use Rattle.lr_base.specs.declared.messages.Message.{Message}
-use Rattle.lr_base.specs.declared.messages.Message.TheVariants.{Answer, Gossip as GossipMessage}
-use Rattle.lr_base.specs.declared.messages.Gossip.{Gossip}
-use Rattle.lr_base.specs.declared.names.Actor.TheVariants.{Client, Replica}
-use Rattle.lr_base.specs.declared.names.Cid.{Cid}
 use Rattle.lr_base.specs.declared.names.Config.{Config}
-use Rattle.lr_causal.specs.Causal.{IsGossip}
 use Rattle.lr_causal.specs.Savepoint.{IsPointOf, Saved}
-use Rattle.lr_world.proofs.Calling.{shaped-plain}
 use Rattle.lr_world.proofs.Everywhere.{each-push}
-use Rattle.lr_world.specs.Asked.{AllAsked, IsAsked}
-use Rattle.lr_world.specs.Shapes.{AllFitting, IsFitting, IsShaped}
+use Rattle.lr_world.proofs.Outboxing.{after_acts-parts}
+use Rattle.lr_world.specs.Outboxes.{Outboxed, after_acts}
+use Rattle.lr_world.specs.Sound.{AllAsked, IsAsked}
 
 module _ {Op : Type 0} (kind_of : Op → Kind) (config : Config) where
-  -- acts that may be done, behind others
-  pub AllFitting-append : (acts more : List (Act Op)) → AllFitting kind_of config acts → AllFitting kind_of config more → AllFitting kind_of config (acts ++ more)
-  AllFitting-append [] more fitting later = later
-  AllFitting-append (act ∷ acts) more fitting later = (fitting.0, AllFitting-append acts more fitting.1 later)
-
   -- queries with one more in front
   AllAsked-front : (call : Call Op) (calls : List (Call Op)) → IsAsked kind_of config call → AllAsked kind_of config calls → AllAsked kind_of config (call ∷ calls)
   AllAsked-front call calls own all zero = λ x e. let same : call ≡ x = cc in subst (λ (y : Call Op). IsAsked kind_of config y) same own
@@ -81,20 +68,6 @@ IsPointOf-along {Value} {Op} p state same before is point = subst (λ (s : Causa
 pub IsPointOf-start : {Value Op : Type 0} (p : Saved Value) (state now : CausalState Value Op) → state ≡ now → IsPointOf p state state → IsPointOf p now now
 IsPointOf-start {Value} {Op} p state now is point = subst (λ (s : CausalState Value Op). IsPointOf p s s) is point
 
--- a replica whose causal part is back is the one that it was
-pub replica-back : {Value Op T E : Type 0} (result : Result T E) (now middle before : ReplicaState Value Op) → now.config ≡ middle.config → middle.config ≡ before.config → now.me ≡ middle.me → middle.me ≡ before.me → OnErr result (now.causal ≡ before.causal) → OnErr result (now ≡ before)
-replica-back (Ok x) now middle before config config_before me me_before back = tt
-replica-back (Err e) now middle before config config_before me me_before back = λ k. record { config = (config ∙ config_before) k; me = (me ∙ me_before) k; causal = back k }
-
-module _ {Op E : Type 0} (kind_of : Op → Kind) (config : Config) where
-  -- acts that may be done, with an answer behind them
-  pub AllFitting-answer : (result : Result (Unit {0}) E) (acts now : List (Act Op)) (cid : Cid) (text stamp : List ℕ) → OnOk result (now ≡ acts ++ Send (Client cid.client) (Answer cid text stamp) ∷ []) → AllFitting kind_of config acts → cid.client < config.clients → length stamp ≡ config.replicas + 1 → OnOk result (AllFitting kind_of config now)
-  AllFitting-answer (Err e) acts now cid text stamp is fitting client parts = tt
-  AllFitting-answer (Ok x) acts now cid text stamp is fitting client parts =
-      let own : IsFitting kind_of config (Send (Client cid.client) (Answer cid text stamp)) =
-      record { to_known = lt-ltb cid.client config.clients client; shaped = shaped-plain kind_of config (Answer cid text stamp) refl refl parts (lt-ltb cid.client config.clients client) refl } in
-      subst (AllFitting kind_of config) (sym is) (AllFitting-append kind_of config acts (Send (Client cid.client) (Answer cid text stamp) ∷ []) fitting (own, tt))
-
 module _ {Value Op : Type 0} (m : Meaning Value Op) where
   -- the acts of one query more come behind
   pub held_acts-more : (state : CausalState Value Op) (calls : List (Call Op)) (call : Call Op) → held_acts m state (calls ++ call ∷ []) ≡ held_acts m state calls ++ held_acts m state (call ∷ [])
@@ -105,24 +78,16 @@ module _ {Value Op : Type 0} (m : Meaning Value Op) where
       go true is rest = rw is (ap (λ (acts : List (Act Op)). answer_act m state first ∷ acts) rest)
       go false is rest = rw is rest
 
-  -- one turn more: the acts so far are those of one query more
-  pub answered-more : (state : CausalState Value Op) (items held : List (Call Op)) (k : ℕ) (call : Call Op) (before acts now : List (Act Op)) → items ≡ held → k < length items → call ≡ get_or items k call → acts ≡ before ++ held_acts m state (take k held) → now ≡ acts ++ held_acts m state (call ∷ []) → now ≡ before ++ held_acts m state (take (k + 1) held)
-  answered-more state items held k call before acts now same within here so_far more =
-      let next : take (k + 1) items ≡ take k items ++ call ∷ [] = take_more items k call within ∙ ap (λ (x : Call Op). take k items ++ x ∷ []) (sym here) in
-      let next' : take (k + 1) held ≡ take k held ++ call ∷ [] = subst (λ (calls : List (Call Op)). take (k + 1) calls ≡ take k calls ++ call ∷ []) same next in
-      let joined : held_acts m state (take (k + 1) held) ≡ held_acts m state (take k held) ++ held_acts m state (call ∷ []) = ap (held_acts m state) next' ∙ held_acts-more state (take k held) call in
-      more ∙ ap (λ (xs : List (Act Op)). xs ++ held_acts m state (call ∷ [])) so_far ∙ append_assoc before (held_acts m state (take k held)) (held_acts m state (call ∷ [])) ∙ ap (λ (xs : List (Act Op)). before ++ xs) (sym joined)
-
-module _ {Op : Type 0} (kind_of : Op → Kind) (config now : Config) (same : config ≡ now) where
-  -- gossip of this run can be taken
-  pub IsGossip-shaped : (message : Message Op) (gossip : Gossip Op) → message ≡ GossipMessage gossip → IsShaped kind_of now message → IsGossip kind_of (config.replicas + 1) gossip
-  IsGossip-shaped message gossip is shaped =
-      let own : IsShaped kind_of now (GossipMessage gossip) = subst (IsShaped kind_of now) is shaped in
-      subst (λ (c : Config). IsGossip kind_of (c.replicas + 1) gossip) (sym same) (record { rep_parts = own.parts; logged = own.logged; updates_received = own.updates_received; acks_received = own.acks_received })
-
-  -- and sent
-  pub AllFitting-gossip : (gossip : Gossip Op) (to : ℕ) (before after : List (Act Op)) → before ≡ [] → after ≡ before ++ Send (Replica to) (GossipMessage gossip) ∷ [] → to < now.replicas → IsGossip kind_of (config.replicas + 1) gossip → AllFitting kind_of now after
-  AllFitting-gossip gossip to before after none is within shape =
-      let own : IsGossip kind_of (now.replicas + 1) gossip = subst (λ (c : Config). IsGossip kind_of (c.replicas + 1) gossip) same shape in
-      subst (AllFitting kind_of now) (sym (is ∙ ap (λ (acts : List (Act Op)). acts ++ Send (Replica to) (GossipMessage gossip) ∷ []) none))
-      (record { to_known = lt-ltb to now.replicas within; shaped = record { parts = own.rep_parts; client = refl; kind = refl; logged = own.logged; updates_received = own.updates_received; acks_received = own.acks_received } }, tt)
+  -- one turn more: what was done so far is done for one query more
+  pub answered-more : (state : CausalState Value Op) (items held : List (Call Op)) (k : ℕ) (call : Call Op) (before middle now : Outboxed Op)
+      → items ≡ held → k < length items → call ≡ get_or items k call → middle ≡ after_acts before (held_acts m state (take k held))
+      → now ≡ after_acts middle (held_acts m state (call ∷ [])) → now ≡ after_acts before (held_acts m state (take (k + 1) held))
+  answered-more state items held k call before middle now same within here so_far more =
+      let next : take (k + 1) items ≡ take k items ++ call ∷ [] =
+      take_more items k call within ∙ ap (λ (x : Call Op). take k items ++ x ∷ []) (sym here) in
+      let next' : take (k + 1) held ≡ take k held ++ call ∷ [] =
+      subst (λ (calls : List (Call Op)). take (k + 1) calls ≡ take k calls ++ call ∷ []) same next in
+      let joined : held_acts m state (take (k + 1) held) ≡ held_acts m state (take k held) ++ held_acts m state (call ∷ []) =
+      ap (held_acts m state) next' ∙ held_acts-more state (take k held) call in
+      after_acts-parts before middle now (held_acts m state (take k held)) (held_acts m state (call ∷ [])) so_far more
+      ∙ ap (after_acts before) (sym joined)

@@ -1,5 +1,5 @@
 -- Facts about every element of a list, by its index.
-use Rattle.std.proofs.Common.{◌≡◌, ℕ, zero, suc, List, [], ◌∷◌, ◌++◌, length, set, Some, None, refl, subst, sym, cond, Bool, true, false, ◌<◌, get_or, ◌∙◌, Option, arith}
+use Rattle.std.proofs.Common.{◌≡◌, ℕ, zero, suc, List, [], ◌∷◌, ◌++◌, length, set, take, Some, None, refl, subst, sym, cond, Bool, true, false, ◌<◌, get_or, ◌∙◌, Option, arith}
 use Rattle.std.proofs.lemmas.Option.{slice_get_past, slice_get_read}
 use Rattle.std.specs.Prelude.{slice_get}
 use Rattle.std.specs.Option.{ForSome}
@@ -23,6 +23,23 @@ module _ {X : Type 0} where
   -- the same of a list that is known by an equation
   pub each-pushed : (xs new : List X) (y : X) (P : ℕ → X → Type 0) → new ≡ xs ++ y ∷ [] → ((k : ℕ) → ForSome (slice_get xs k) (P k)) → P (length xs) y → (k : ℕ) → ForSome (slice_get new k) (P k)
   each-pushed xs new y P is all own = subst (λ (ys : List X). (k : ℕ) → ForSome (slice_get ys k) (P k)) (sym is) (each-push xs y P all own)
+
+  -- the first elements
+  pub each-take : (xs : List X) (n : ℕ) (P : ℕ → X → Type 0) → ((k : ℕ) → ForSome (slice_get xs k) (P k)) → (k : ℕ) → ForSome (slice_get (take n xs) k) (P k)
+  each-take xs zero P all k = none-there k
+    where
+      none-there : (k : ℕ) → ForSome (slice_get (take 0 xs) k) (P k)
+      none-there zero = λ z e. let none : None ≡ Some z = e in cc
+      none-there (suc k) = λ z e. let none : None ≡ Some z = e in cc
+  each-take [] (suc n) P all k = all k
+  each-take (x ∷ xs) (suc n) P all zero = all 0
+  each-take (x ∷ xs) (suc n) P all (suc k) = each-take xs n (λ i. P (suc i)) (λ i. all (suc i)) k
+
+  -- elements behind others, of each of which the same holds
+  pub each-append : (xs ys : List X) (P : X → Type 0) → ((k : ℕ) → ForSome (slice_get xs k) P) → ((k : ℕ) → ForSome (slice_get ys k) P) → (k : ℕ) → ForSome (slice_get (xs ++ ys) k) P
+  each-append [] ys P all more k = more k
+  each-append (x ∷ xs) ys P all more zero = all 0
+  each-append (x ∷ xs) ys P all more (suc k) = each-append xs ys P (λ n. all (suc n)) more k
 
   -- an element that was read is one of them
   pub each-read : (xs : List X) (i : ℕ) (x : X) (P : ℕ → X → Type 0) → ((k : ℕ) → ForSome (slice_get xs k) (P k)) → (count : ℕ) → count ≡ length xs → i < count → x ≡ get_or xs i x → P i x

@@ -1,7 +1,10 @@
 pub mod Everywhere
+pub mod Outboxing
 pub mod Answering
-pub mod Calling
+pub mod Shaped
 pub mod FrontCalls
 pub mod RunLemmas
 pub mod SortedCalls
 pub mod Histories
+pub mod Fitting
+pub mod Begun

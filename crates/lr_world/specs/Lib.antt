@@ -1,7 +1,8 @@
 pub mod Shapes
-pub mod Asked
+pub mod Sound
 pub mod Posts
-pub mod Recorded
-pub mod FrontActs
-pub mod Finished
+pub mod Called
+pub mod Outboxes
+pub mod Parts
+pub mod Pending
 pub mod Worlds

@@ -1,16 +1,13 @@
 -- What every message and every act of a run keeps.
-use Rattle.std.specs.Prelude.{◌≡◌, ◌+◌, ◌<◌, ◌≢◌, ℕ, Bool, true, not, List, [], ◌∷◌, length, nat_lt}
-use Rattle.lr_base.specs.Kinds.{IsPlain, is_query}
+use Rattle.std.specs.Prelude.{◌≡◌, ◌+◌, ℕ, Bool, true, not, List, [], ◌∷◌, length, nat_lt}
+use Rattle.lr_base.specs.Kinds.{is_query}
 use Rattle.lr_base.specs.declared.lr_service.Kind.{Kind}
 use Rattle.lr_base.specs.declared.names.Actor.{Actor}
 use Rattle.lr_base.specs.declared.names.Actor.TheVariants.{Client, Replica}
 use Rattle.lr_base.specs.declared.names.Config.{Config}
 use Rattle.lr_base.specs.declared.acts.Act.{Act}
 use Rattle.lr_base.specs.declared.acts.Act.TheVariants.{Say, Send}
-use Rattle.lr_base.specs.declared.events.Event.{Event}
-use Rattle.lr_base.specs.declared.events.Event.TheVariants.{Call, Deliver, Gossip as GossipEvent, Show}
 use Rattle.lr_base.specs.Logged.{AllLogged}
-use Rattle.lr_base.specs.Meaning.{Meaning}
 use Rattle.lr_causal.specs.Causal.{AllAcksReceived, AllReceived}
 use Rattle.lr_base.specs.declared.messages.LogAck.{LogAck}
 use Rattle.lr_base.specs.declared.messages.LogUpdate.{LogUpdate}
@@ -62,7 +59,7 @@ abbrev pub is_actor : Config → Actor → Bool
 is_actor config (Client client) = nat_lt client config.clients
 is_actor config (Replica replica) = nat_lt replica config.replicas
 
--- a message of this run: its stamp has a part for each place, its client is one of the run's, the updates that it tells can be logged, and its stamp says that all that it tells was received
+-- a message of this run: its stamp has a part for each place, its client is one of the run's, and what it tells can be logged and was received
 pub record IsShaped {Op : Type 0} (kind_of : Op → Kind) (config : Config) (message : Message Op) : Type 0 where
   pub parts : length (stamp_in message) ≡ config.replicas + 1
   pub client : has_client config message ≡ true
@@ -85,17 +82,3 @@ IsFitting kind_of config (Send to message) = IsSendable kind_of config to messag
 abbrev pub AllFitting : {Op : Type 0} → (Op → Kind) → Config → List (Act Op) → Type 0
 AllFitting kind_of config [] = Unit {0}
 AllFitting kind_of config (act ∷ acts) = IsFitting kind_of config act × AllFitting kind_of config acts
-
--- an event names a client and replicas that there are, and gossip goes to another replica
-abbrev pub IsInRange : {Op : Type 0} → Config → Event Op → Type 0
-IsInRange config (Call client replica reading op) = (client < config.clients) × (replica < config.replicas)
-IsInRange config (Deliver message) = Unit {0}
-IsInRange config (GossipEvent from to) = (from < config.replicas) × (to < config.replicas) × (from ≢ to)
-IsInRange config (Show replica) = replica < config.replicas
-
--- an event calls no operation that needs an order of its own
-abbrev pub CallsPlain : {Value Op : Type 0} → Meaning Value Op → Event Op → Type 0
-CallsPlain m (Call client replica reading op) = IsPlain (m.kind op)
-CallsPlain m (Deliver message) = Unit {0}
-CallsPlain m (GossipEvent from to) = Unit {0}
-CallsPlain m (Show replica) = Unit {0}

@@ -1,7 +1,7 @@
 //! A client's side of its calls.
-ghost use Rattle.std.specs.Prelude.{◌≡◌, ◌↔◌, ◌+◌, ◌<◌, ◌^◌, None, Some, max, length, replicate, IfOk, IsErrOf, ◌≢◌, ◌≤◌};
-ghost use Rattle.lr_base.specs.Stamps.{join};
-ghost use Rattle.lr_base.specs.Fronts.{FrontState, called, clock_read, message_of, new_front, reply_taken};
+ghost use Rattle.std.specs.Prelude.{◌≡◌, ◌≤◌, length};
+ghost use Rattle.lr_base.specs.Fronts.{new_front, reply_taken};
+ghost use Rattle.lr_world.specs.Called.{HasCalled, IsSameFront, IsTaken};
 
 use lr_base::lr_service::{Kind, Operation};
 use lr_base::{Call, Cid, Message, NoMemory, Stamp};
@@ -87,14 +87,7 @@ impl Front {
         op: &O,
     ) -> Result<Message<O>, CallFault>
         requires { kind ≡ O.kind_of op.now }
-        ensures ok { IfOk result (λ message. (self.old.open_call ≡ None) × (self.new ≡ called reading self.old) × (message ≡ message_of kind self.old reading op.now)) }
-        ensures unfinished { (cid : Cid) → (IsErrOf result (CallFault.Unfinished cid) ↔ (self.old.open_call ≡ Some cid)) }
-        ensures worn { IsErrOf result CallFault.Worn ↔ ((self.old.open_call ≡ None) × (self.old.calls ≡ 2 ^ 62)) }
-        ensures unfinished_clock { (cid : Cid) → IsErrOf result (CallFault.Unfinished cid) → self.new ≡ clock_read reading self.old }
-        ensures worn_clock { IsErrOf result CallFault.Worn → self.new ≡ clock_read reading self.old }
-        ensures label { self.new.label ≡ self.old.label }
-        ensures client { self.new.client ≡ self.old.client }
-        ensures no_memory { IsErrOf result CallFault.NoMemory → self.new ≡ self.old }
+        ensures { HasCalled kind reading op.now self.old self.new result }
     {
         if let Some(cid) = self.open_call {
             self.clock = self.clock.max(reading);
@@ -131,11 +124,9 @@ impl Front {
     /// Takes the reply to a call. Only that to the open call changes anything.
     pub fn take_reply(&mut self, cid: Cid, stamp: &Stamp) -> Taken
         requires { length stamp.now ≡ length self.old.label }
-        ensures got { (result ≡ Taken.Got cid) ↔ (self.old.open_call ≡ Some cid) }
-        ensures stale { (result ≡ Taken.Stale cid) ↔ (self.old.open_call ≢ Some cid) }
-        ensures taken { self.new ≡ reply_taken cid stamp.now self.old }
-        ensures parts { length self.new.label ≡ length self.old.label }
-        ensures client { self.new.client ≡ self.old.client }
+        ensures taken { IsTaken cid self.old.open_call result }
+        ensures state { self.new ≡ reply_taken cid stamp.now self.old }
+        ensures same { IsSameFront self.old self.new }
     {
         if self.open_call == Some(cid) {
             self.label.join(stamp);

@@ -1,83 +1,76 @@
 //! What a front end does: with a command of its client, and with a message.
-ghost use Rattle.std.specs.Prelude.{◌≡◌, ◌==◌, ◌^◌, [], ◌∷◌, length, IfOk, OnOk};
-ghost use Rattle.lr_graph.specs.Runs.{front_after, front_lines};
-ghost use Rattle.lr_world.specs.FrontActs.{all_said, front_acts, front_next};
+ghost use Rattle.std.specs.Prelude.{◌≡◌, ◌==◌, ◌^◌, [], ◌∷◌, length, OnOk};
+ghost use Rattle.lr_base.specs.Fronts.{front_on_call, front_on_message, front_on_reply};
+ghost use Rattle.lr_world.specs.Called.{IsSameFront};
+ghost use Rattle.lr_world.specs.Parts.{HasFrontDone};
 ghost use Rattle.lr_world.specs.Shapes.{stamp_in};
 
-use crate::acts::{Acts, no_act, say, send};
 use crate::front::{CallFault, Front, Taken};
+use crate::outbox::Outbox;
 use lr_base::lr_service::{Operation, Service};
-use lr_base::{Act, Actor, Cid, Message, NoMemory, Outcome, Refusal};
-use std::alloc::Global;
+use lr_base::{Actor, Cid, Message, NoMemory, Outcome, Refusal, Stamp};
 
 /// A client calls through a replica.
-pub fn call_front<S: Service>(
-    alloc: Global,
+pub fn on_call<S: Service>(
     front: &mut Front,
     replica: u8,
     reading: u64,
     op: &S::Op,
-) -> Result<Acts<S::Op>, NoMemory>
-    ensures acts { IfOk result (λ acts. acts.items ≡ front_acts (S.meaning.kind op.now) replica reading op.now front.old front.old.open_call (front.old.calls == 2 ^ 62)) }
-    ensures next { OnOk result (front.new ≡ front_next reading front.old front.old.open_call (front.old.calls == 2 ^ 62)) }
-    ensures parts { length front.new.label ≡ length front.old.label }
-    ensures client { front.new.client ≡ front.old.client }
+    out: &mut Outbox<S::Op>,
+) -> Result<(), NoMemory>
+    ensures did { let it = front.old in
+        let end = front_on_call (S.meaning.kind op.now) (Actor.Replica replica) reading op.now it it.open_call (it.calls == 2 ^ 62) in
+        OnOk result (HasFrontDone end front.new out.old out.new) }
+    ensures same { IsSameFront front.old front.new }
 {
     match front.call(reading, S::kind(op), op) {
-        Ok(message) => {
-            let mut acts = no_act(alloc);
-            send(&mut acts, Actor::Replica(replica), message)?;
-            Ok(acts)
-        }
-        Err(CallFault::Unfinished(cid)) => {
-            let why = Refusal::Unfinished { cid };
-            say(alloc, Outcome::Refuse { why })
-        }
-        Err(CallFault::Worn) => {
-            let why = Refusal::Worn;
-            say(alloc, Outcome::Refuse { why })
-        }
+        Ok(message) => out.send(Actor::Replica(replica), message),
+        Err(CallFault::Unfinished(cid)) => out.say(Outcome::Refuse {
+            why: Refusal::Unfinished { cid },
+        }),
+        Err(CallFault::Worn) => out.say(Outcome::Refuse { why: Refusal::Worn }),
         Err(CallFault::NoMemory) => Err(NoMemory),
     }
 }
 
 /// A message comes to a front end: what is no reply has no rule there.
-pub fn give_front<O: Operation>(
-    alloc: Global,
+pub fn on_message<O: Operation>(
     front: &mut Front,
     message: &Message<O>,
-) -> Result<Acts<O>, NoMemory>
+    out: &mut Outbox<O>,
+) -> Result<(), NoMemory>
     requires { length (stamp_in message.now) ≡ length front.old.label }
-    ensures acts { IfOk result (λ acts. acts.items ≡ all_said (front_lines message.now front.old)) }
-    ensures next { front.new ≡ front_after message.now front.old }
-    ensures parts { length front.new.label ≡ length front.old.label }
-    ensures client { front.new.client ≡ front.old.client }
+    ensures did { OnOk result (HasFrontDone (front_on_message message.now front.old) front.new out.old out.new) }
+    ensures same { IsSameFront front.old front.new }
 {
     match message {
         Message::Done {
             cid,
             spot: _spot,
             stamp,
-        } => say_taken(alloc, front.take_reply(*cid, stamp)),
+        } => on_reply(front, *cid, stamp, out),
         Message::Answer {
             cid,
             text: _text,
             stamp,
-        } => say_taken(alloc, front.take_reply(*cid, stamp)),
-        _ => Ok(no_act(alloc)),
+        } => on_reply(front, *cid, stamp, out),
+        _ => Ok(()),
     }
 }
 
-// What is said of a reply.
-fn say_taken<O: Operation>(alloc: Global, taken: Taken) -> Result<Acts<O>, NoMemory>
-    ensures got { (cid : Cid) → taken ≡ Taken.Got cid → IfOk result (λ acts. acts.items ≡ Act.Say (Outcome.Got cid) ∷ []) }
-    ensures stale { (cid : Cid) → taken ≡ Taken.Stale cid → IfOk result (λ acts. acts.items ≡ Act.Say (Outcome.Stale cid) ∷ []) }
+// The reply to a call comes.
+fn on_reply<O: Operation>(
+    front: &mut Front,
+    cid: Cid,
+    stamp: &Stamp,
+    out: &mut Outbox<O>,
+) -> Result<(), NoMemory>
+    requires { length stamp.now ≡ length front.old.label }
+    ensures did { OnOk result (HasFrontDone (front_on_reply cid stamp.now front.old) front.new out.old out.new) }
+    ensures same { IsSameFront front.old front.new }
 {
-    say(
-        alloc,
-        match taken {
-            Taken::Got(cid) => Outcome::Got { cid },
-            Taken::Stale(cid) => Outcome::Stale { cid },
-        },
-    )
+    match front.take_reply(cid, stamp) {
+        Taken::Got(cid) => out.say(Outcome::Got { cid }),
+        Taken::Stale(cid) => out.say(Outcome::Stale { cid }),
+    }
 }

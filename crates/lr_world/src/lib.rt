@@ -1,16 +1,17 @@
 //! All actors of a run, and the legal history that they make.
 #![tactic(auto)]
 
-mod actors;
-mod acts;
 mod copies;
 mod front;
 mod front_steps;
-mod history;
+mod outbox;
+mod pending;
 mod replica;
-mod replica_steps;
+mod run;
+mod task;
 #[cfg(test)]
 mod tests;
 mod world;
 
+pub use run::Run;
 pub use world::World;

@@ -1,10 +1,12 @@
-//! One replica: what it does with a message, and the queries that it holds.
-ghost use Rattle.std.specs.Prelude.{◌≡◌, ◌∷◌, [], IfOk};
+//! One replica: what it does with a task, up to what can't fail, and how the step ends.
+ghost use Rattle.std.specs.Prelude.{◌≡◌, [], ◌∷◌, OnOk};
+ghost use Rattle.lr_world.specs.Outboxes.{after_acts};
 
-use crate::acts::{Acts, no_act, say, send};
+use crate::outbox::Outbox;
+use crate::task::Task;
 use lr_base::lr_service::{Operation, Service};
 use lr_base::{
-    Act, Actor, Call, Cid, Config, Fresh, Message, NoMemory, Outcome, Refusal, Rows, Spot, Stamp,
+    Act, Actor, Call, Cid, Config, Fresh, Gossip, Message, NoMemory, Outcome, Refusal, Rows, Spot, Stamp,
     StateLine, Text,
 };
 use lr_causal::{Causal, Savepoint};
@@ -24,31 +26,31 @@ pub struct Replica<S: Service> {
 }
 
 impl<S: Service> Model for Replica<S> {
-    ghost use Rattle.lr_causal.specs.State.{config_of, me_of, state_of};
+    ghost use Rattle.lr_causal.specs.State.{config_of, replica_of, state_of};
     ghost use Rattle.lr_base.specs.Replicas.{ReplicaState};
-    ghost use Rattle.lr_world.specs.Asked.{AllAsked};
+    ghost use Rattle.lr_world.specs.Sound.{AllAsked};
 
     ghost Value = { ReplicaState S S.Op };
 
-    ghost view = { λ it. record { config = config_of it.causal; me = me_of it.causal; causal = state_of it.causal } };
+    ghost view = { λ it. replica_of it.causal };
 
     ghost invariant = { λ it. AllAsked S.Op.kind_of (config_of it.causal) (state_of it.causal).held };
 }
 
 impl<S: Service> Replica<S> {
-    ghost use Rattle.std.specs.Prelude.{◌≡◌, ◌+◌, ℕ, true, ◌<◌, ◌++◌, length, map, nat_lt, IfOk, OnOk, OnErr};
+    ghost use Rattle.std.specs.Prelude.{◌≡◌, ◌+◌, ◌==◌, ℕ, true, ◌<◌, [], ◌∷◌, ◌++◌, length, map, nat_lt, IfOk, OnOk, OnErr};
     ghost use Rattle.lr_base.specs.Config.{IsValid};
-    ghost use Rattle.lr_base.specs.Kinds.{IsUpdate};
     ghost use Rattle.lr_base.specs.Stamps.{stamp_le};
     ghost use Rattle.lr_base.specs.Ascending.{ascending};
-    ghost use Rattle.lr_world.specs.Asked.{IsAsked};
-    ghost use Rattle.lr_world.specs.Shapes.{AllFitting, IsShaped, is_actor};
-    ghost use Rattle.lr_base.specs.Rules.{fresh_of};
     ghost use Rattle.lr_base.specs.Replicas.{first_replica, state_line_of};
-    ghost use Rattle.lr_base.specs.Rules.{CausalState, applied};
-    ghost use Rattle.lr_base.specs.Steps.{call_taken, ended, has_number, has_room, gossiped, held_acts, own_taken, query_held, query_taken, taken, update_taken};
-    ghost use Rattle.lr_causal.specs.Savepoint.{IsPointOf, Saved};
-    ghost use Rattle.lr_world.specs.Finished.{finished};
+    ghost use Rattle.lr_base.specs.Rules.{CausalState, fresh_of, gossip_of};
+    ghost use Rattle.lr_base.specs.Steps.{call_taken, gossip_given, has_number, has_room, held_acts, own_taken, query_held, query_taken, update_taken};
+    ghost use Rattle.lr_causal.specs.Causal.{IsGossip, IsUpdateCall};
+    ghost use Rattle.lr_causal.specs.Savepoint.{CanUndo, IsPointOf, IsSame};
+    ghost use Rattle.lr_world.specs.Outboxes.{after_acts};
+    ghost use Rattle.lr_world.specs.Parts.{HasDone, IsTask, begun, finished, heard_in, own_of, row_of, settled};
+    ghost use Rattle.lr_world.specs.Shapes.{IsShaped, is_actor};
+    ghost use Rattle.lr_world.specs.Sound.{IsAsked, IsSound};
 
     /// A replica at which nothing has happened.
     pub fn new(alloc: Global, config: Config, me: u8) -> Result<Self, NoMemory>
@@ -60,54 +62,37 @@ impl<S: Service> Replica<S> {
         Ok(Replica { causal })
     }
 
-    /// Which replica it is.
-    pub fn me(&self) -> u8
-        ensures { result ≡ self.now.me }
-    {
-        self.causal.me()
+    fn allocator(&self) -> Global {
+        self.causal.allocator()
     }
 
-    /// Takes a message that was sent to it, up to what can't fail. Then `finish` ends the step, or `undo` takes it back.
-    pub fn take(
+    /// What its type keeps. It does nothing.
+    pub fn keeps(&self)
+        ensures { IsSound S.Op.kind_of self.now }
+    {
+        let _ = &self.causal;
+    }
+
+    /// Does a task up to what can't fail, or nothing at all. Then `finish` ends the step, or `undo` takes it back.
+    pub fn begin(
         &mut self,
-        from: Actor,
-        message: &Message<S::Op>,
-    ) -> Result<(Acts<S::Op>, Savepoint<S>), NoMemory>
-        requires shaped { IsShaped S.Op.kind_of self.old.config message.now }
-        requires from { is_actor self.old.config from ≡ true }
-        ensures fitting { IfOk result (λ step. AllFitting S.Op.kind_of self.old.config step.0.items) }
-        ensures setting { self.new.config ≡ self.old.config }
-        ensures number { self.new.me ≡ self.old.me }
-        ensures did { IfOk result (λ step. step.0.items ≡ (taken S.meaning self.old.config self.old.me self.old.causal from message.now).acts) }
-        ensures state { OnOk result (finished self.old.config.replicas self.new.causal ≡ (taken S.meaning self.old.config self.old.me self.old.causal from message.now).state) }
-        ensures point { IfOk result (λ step. IsPointOf step.1 self.new.causal self.old.causal) }
-        ensures err { OnErr result (self.new.causal ≡ self.old.causal) }
+        task: Task<'_, S::Op>,
+        out: &mut Outbox<S::Op>,
+    ) -> Result<Savepoint<S>, NoMemory>
+        requires { IsTask S.Op.kind_of self.old.config task }
+        // what the task does itself, and then what is ready is applied and held queries are answered
+        ensures did { IfOk result (λ point. HasDone (begun S.meaning self.old task.entry) self.new.causal out.old out.new) }
+        // what stays, and can be undone
+        ensures same { IsSame self.old self.new }
+        ensures point { IfOk result (λ point. IsPointOf point self.new.causal self.old.causal) }
+        ensures err { OnErr result (self.new ≡ self.old) }
     {
-        let mut point = self.causal.save()?;
-        let Ok(acts) = self.take_all(from, message, &mut point) else {
+        let mut point = self.save(&task);
+        let Ok(()) = self.make(task, &mut point, out) else {
             self.causal.restore(point);
             return Err(NoMemory);
         };
-        Ok((acts, point))
-    }
-
-    /// Sends gossip to another replica, up to what can't fail. Then `finish` ends the step, or `undo` takes it back.
-    pub fn send_gossip(&mut self, to: u8) -> Result<(Acts<S::Op>, Savepoint<S>), NoMemory>
-        requires { to < self.old.config.replicas }
-        ensures fitting { IfOk result (λ step. AllFitting S.Op.kind_of self.old.config step.0.items) }
-        ensures setting { self.new.config ≡ self.old.config }
-        ensures number { self.new.me ≡ self.old.me }
-        ensures did { IfOk result (λ step. step.0.items ≡ (gossiped S.meaning self.old.config.replicas to self.old.causal).acts) }
-        ensures state { OnOk result (finished self.old.config.replicas self.new.causal ≡ (gossiped S.meaning self.old.config.replicas to self.old.causal).state) }
-        ensures point { IfOk result (λ step. IsPointOf step.1 self.new.causal self.old.causal) }
-        ensures err { OnErr result (self.new.causal ≡ self.old.causal) }
-    {
-        let mut point = self.causal.save()?;
-        let Ok(acts) = self.tell(to, &mut point) else {
-            self.causal.restore(point);
-            return Err(NoMemory);
-        };
-        Ok((acts, point))
+        Ok(point)
     }
 
     /// Ends a step: answered queries are held no more, and what is known everywhere leaves. It takes no memory.
@@ -121,247 +106,222 @@ impl<S: Service> Replica<S> {
     /// Takes a step back that isn't finished. It takes no memory.
     pub fn undo(&mut self, point: Savepoint<S>)
         requires { (before : CausalState S S.Op) × IsPointOf point self.old.causal before }
-        ensures setting { self.new.config ≡ self.old.config }
-        ensures number { self.new.me ≡ self.old.me }
+        ensures same { IsSame self.old self.new }
         ensures state { (before : CausalState S S.Op) → IsPointOf point self.old.causal before → self.new.causal ≡ before }
     {
         self.causal.restore(point);
     }
 
-    // All that a message does, but for what can't fail.
-    fn take_all(
+    // What is needed to undo a task.
+    fn save(&self, task: &Task<'_, S::Op>) -> Savepoint<S>
+        requires { IsTask S.Op.kind_of self.now.config task.now }
+        ensures point { IsPointOf result self.now.causal self.now.causal }
+        ensures heard { result.heard ≡ heard_in self.now.me task.now }
+    {
+        match task {
+            Task::Take {
+                from: Actor::Replica(from),
+                message: _message,
+            } => self.causal.save(*from),
+            _ => self.causal.save(self.causal.me()),
+        }
+    }
+
+    // All of a task, but for what can't fail.
+    fn make(
+        &mut self,
+        task: Task<'_, S::Op>,
+        point: &mut Savepoint<S>,
+        out: &mut Outbox<S::Op>,
+    ) -> Result<(), NoMemory>
+        requires { IsTask S.Op.kind_of self.old.config task }
+        ensures did { OnOk result (HasDone (begun S.meaning self.old task.entry) self.new.causal out.old out.new) }
+        ensures same { IsSame self.old self.new }
+        ensures point { (before : CausalState S S.Op) → point.old.heard ≡ heard_in self.old.me task.entry
+            → IsPointOf point.old self.old.causal before → IsPointOf point.new self.new.causal before }
+    {
+        self.act(task, out)?;
+        self.settle(point, out)
+    }
+
+    // What a task does itself.
+    fn act(
+        &mut self,
+        task: Task<'_, S::Op>,
+        out: &mut Outbox<S::Op>,
+    ) -> Result<(), NoMemory>
+        requires { IsTask S.Op.kind_of self.old.config task }
+        ensures did { OnOk result (HasDone (own_of S.meaning self.old task.entry) self.new.causal out.old out.new) }
+        ensures undo { CanUndo (heard_in self.old.me task.entry) self.old self.new }
+    {
+        match task {
+            Task::Take { from, message } => self.take(from, message, out),
+            Task::Tell { to } => self.tell(to, out),
+        }
+    }
+
+    // What a message does itself: replies have no rule here, nor has what comes from where it can't.
+    fn take(
         &mut self,
         from: Actor,
         message: &Message<S::Op>,
-        point: &mut Savepoint<S>,
-    ) -> Result<Acts<S::Op>, NoMemory>
-        requires shaped { IsShaped S.Op.kind_of self.old.config message.now }
+        out: &mut Outbox<S::Op>,
+    ) -> Result<(), NoMemory>
         requires from { is_actor self.old.config from ≡ true }
-        ensures fitting { IfOk result (λ acts. AllFitting S.Op.kind_of self.old.config acts.items) }
-        ensures setting { self.new.config ≡ self.old.config }
-        ensures number { self.new.me ≡ self.old.me }
-        ensures did { IfOk result (λ acts. acts.items ≡ (taken S.meaning self.old.config self.old.me self.old.causal from message.now).acts) }
-        ensures state { OnOk result (finished self.old.config.replicas self.new.causal ≡ (taken S.meaning self.old.config self.old.me self.old.causal from message.now).state) }
-        ensures point { (before : CausalState S S.Op) → IsPointOf point.old self.old.causal before → IsPointOf point.new self.new.causal before }
-    {
-        let mut acts = self.take_own(from, message)?;
-        self.answer_ready(&mut acts, point)?;
-        Ok(acts)
-    }
-
-    // All that sending gossip does, but for what can't fail.
-    fn tell(&mut self, to: u8, point: &mut Savepoint<S>) -> Result<Acts<S::Op>, NoMemory>
-        requires { to < self.old.config.replicas }
-        ensures fitting { IfOk result (λ acts. AllFitting S.Op.kind_of self.old.config acts.items) }
-        ensures setting { self.new.config ≡ self.old.config }
-        ensures number { self.new.me ≡ self.old.me }
-        ensures did { IfOk result (λ acts. acts.items ≡ (gossiped S.meaning self.old.config.replicas to self.old.causal).acts) }
-        ensures state { OnOk result (finished self.old.config.replicas self.new.causal ≡ (gossiped S.meaning self.old.config.replicas to self.old.causal).state) }
-        ensures point { (before : CausalState S S.Op) → IsPointOf point.old self.old.causal before → IsPointOf point.new self.new.causal before }
-    {
-        let gossip = self.causal.make_gossip()?;
-        let mut acts = no_act(self.allocator());
-        send(&mut acts, Actor::Replica(to), Message::Gossip { gossip })?;
-        self.answer_ready(&mut acts, point)?;
-        Ok(acts)
-    }
-
-    fn allocator(&self) -> Global {
-        self.causal.allocator()
-    }
-
-    // What the message itself does.
-    fn take_own(&mut self, from: Actor, message: &Message<S::Op>) -> Result<Acts<S::Op>, NoMemory>
         requires shaped { IsShaped S.Op.kind_of self.old.config message.now }
-        requires from { is_actor self.old.config from ≡ true }
-        ensures acts { IfOk result (λ acts. AllFitting S.Op.kind_of self.old.config acts.items) }
-        ensures setting { self.new.config ≡ self.old.config }
-        ensures number { self.new.me ≡ self.old.me }
-        ensures did { IfOk result (λ acts. acts.items ≡ (own_taken S.meaning self.old.config self.old.me self.old.causal from message.now).acts) }
-        ensures state { OnOk result (self.new.causal ≡ (own_taken S.meaning self.old.config self.old.me self.old.causal from message.now).state) }
-        ensures point { (p : Saved S) (before : CausalState S S.Op) → IsPointOf p self.old.causal before → IsPointOf p self.new.causal before }
+        ensures did { let it = self.old in
+            OnOk result (HasDone (own_taken S.meaning it.config it.me it.causal from message.now) self.new.causal out.old out.new) }
+        ensures undo { CanUndo (row_of self.old.me from) self.old self.new }
     {
         match from {
-            Actor::Client(_client) => self.take_call(message),
-            Actor::Replica(from) => self.take_gossip(from, message),
+            Actor::Client(_client) => match message {
+                Message::Update { call, time } => self.on_update(call, *time, out),
+                Message::Query { call } => self.on_query(call, out),
+                _ => Ok(()),
+            },
+            Actor::Replica(from) => match message {
+                Message::Gossip { gossip } => self.on_gossip(from, gossip, out),
+                _ => Ok(()),
+            },
         }
     }
 
-    // A client's message: a reply has no rule here.
-    fn take_call(&mut self, message: &Message<S::Op>) -> Result<Acts<S::Op>, NoMemory>
-        requires { IsShaped S.Op.kind_of self.old.config message.now }
-        ensures acts { IfOk result (λ acts. AllFitting S.Op.kind_of self.old.config acts.items) }
-        ensures setting { self.new.config ≡ self.old.config }
-        ensures number { self.new.me ≡ self.old.me }
-        ensures did { (client : ℕ) → IfOk result (λ acts. acts.items ≡ (own_taken S.meaning self.old.config self.old.me self.old.causal (Actor.Client client) message.now).acts) }
-        ensures state { (client : ℕ) → OnOk result (self.new.causal ≡ (own_taken S.meaning self.old.config self.old.me self.old.causal (Actor.Client client) message.now).state) }
-        ensures point { (p : Saved S) (before : CausalState S S.Op) → IsPointOf p self.old.causal before → IsPointOf p self.new.causal before }
-    {
-        match message {
-            Message::Update { call, time } => self.take_update(call, *time),
-            Message::Query { call } => self.take_query(call),
-            _ => Ok(no_act(self.allocator())),
-        }
-    }
-
-    // A replica's message: gossip of another is taken, and nothing else has a rule here.
-    fn take_gossip(&mut self, from: u8, message: &Message<S::Op>) -> Result<Acts<S::Op>, NoMemory>
-        requires shaped { IsShaped S.Op.kind_of self.old.config message.now }
+    // Gossip of another replica is taken.
+    fn on_gossip(
+        &mut self,
+        from: u8,
+        gossip: &Gossip<S::Op>,
+        out: &mut Outbox<S::Op>,
+    ) -> Result<(), NoMemory>
         requires from { from < self.old.config.replicas }
-        ensures acts { IfOk result (λ acts. AllFitting S.Op.kind_of self.old.config acts.items) }
-        ensures setting { self.new.config ≡ self.old.config }
-        ensures number { self.new.me ≡ self.old.me }
-        ensures did { IfOk result (λ acts. acts.items ≡ (own_taken S.meaning self.old.config self.old.me self.old.causal (Actor.Replica from) message.now).acts) }
-        ensures state { OnOk result (self.new.causal ≡ (own_taken S.meaning self.old.config self.old.me self.old.causal (Actor.Replica from) message.now).state) }
-        ensures point { (p : Saved S) (before : CausalState S S.Op) → IsPointOf p self.old.causal before → IsPointOf p self.new.causal before }
+        requires gossip { IsGossip S.Op.kind_of (self.old.config.replicas + 1) gossip.now }
+        ensures did { let it = self.old in
+            OnOk result (HasDone (gossip_given from it.causal gossip.now (from == it.me)) self.new.causal out.old out.new) }
+        ensures undo { CanUndo from self.old self.new }
     {
-        let Message::Gossip { gossip } = message else {
-            return Ok(no_act(self.allocator()));
-        };
         if from == self.causal.me() {
-            return Ok(no_act(self.allocator()));
+            return Ok(());
         }
         let count = self.causal.take_gossip(from, gossip)?;
-        say(self.allocator(), Outcome::Take { count })
+        out.say(Outcome::Take { count })
     }
 
     // The first checks of an update.
-    fn take_update(&mut self, call: &Call<S::Op>, time: u64) -> Result<Acts<S::Op>, NoMemory>
-        requires parts { length call.now.prev ≡ self.old.config.replicas + 1 }
-        requires client { call.now.cid.client < self.old.config.clients }
-        requires update { IsUpdate (S.Op.kind_of call.now.op) }
-        ensures acts { IfOk result (λ acts. AllFitting S.Op.kind_of self.old.config acts.items) }
-        ensures setting { self.new.config ≡ self.old.config }
-        ensures number { self.new.me ≡ self.old.me }
-        ensures did { IfOk result (λ acts. acts.items ≡ (update_taken self.old.me self.old.causal call.now (fresh_of self.old.config.delta self.old.causal call.now.cid time)).acts) }
-        ensures state { OnOk result (self.new.causal ≡ (update_taken self.old.me self.old.causal call.now (fresh_of self.old.config.delta self.old.causal call.now.cid time)).state) }
-        ensures point { (p : Saved S) (before : CausalState S S.Op) → IsPointOf p self.old.causal before → IsPointOf p self.new.causal before }
+    fn on_update(
+        &mut self,
+        call: &Call<S::Op>,
+        time: u64,
+        out: &mut Outbox<S::Op>,
+    ) -> Result<(), NoMemory>
+        requires { IsUpdateCall S.Op.kind_of (self.old.config.replicas + 1) call.now }
+        ensures did { let it = self.old in let fresh = fresh_of it.config.delta it.causal call.now.cid time in
+            OnOk result (HasDone (update_taken it.me it.causal call.now fresh) self.new.causal out.old out.new) }
+        ensures undo { (row : ℕ) → CanUndo row self.old self.new }
     {
         match self.causal.fresh(call.cid, time) {
-            Fresh::Late { time, clock } => refused(self.allocator(), Refusal::Late { time, clock }),
+            Fresh::Late { time, clock } => refuse(Refusal::Late { time, clock }, out),
             Fresh::Again { spot, stamp } => {
                 let why = Refusal::Again { spot };
-                let line = Outcome::Refuse { why };
-                replied(self.allocator(), line, call.cid, spot, stamp)
+                reply(Outcome::Refuse { why }, call.cid, spot, stamp, out)
             }
-            Fresh::Settled => refused(self.allocator(), Refusal::Settled),
-            Fresh::New => self.accept(call),
+            Fresh::Settled => refuse(Refusal::Settled, out),
+            Fresh::New => self.accept(call, out),
         }
     }
 
     // An update that is new here.
-    fn accept(&mut self, call: &Call<S::Op>) -> Result<Acts<S::Op>, NoMemory>
-        requires parts { length call.now.prev ≡ self.old.config.replicas + 1 }
-        requires client { call.now.cid.client < self.old.config.clients }
-        requires update { IsUpdate (S.Op.kind_of call.now.op) }
-        ensures acts { IfOk result (λ acts. AllFitting S.Op.kind_of self.old.config acts.items) }
-        ensures setting { self.new.config ≡ self.old.config }
-        ensures number { self.new.me ≡ self.old.me }
-        ensures did { IfOk result (λ acts. acts.items ≡ (call_taken self.old.me self.old.causal call.now (has_room self.old.causal) (has_number self.old.me self.old.causal)).acts) }
-        ensures state { OnOk result (self.new.causal ≡ (call_taken self.old.me self.old.causal call.now (has_room self.old.causal) (has_number self.old.me self.old.causal)).state) }
-        ensures point { (p : Saved S) (before : CausalState S S.Op) → IsPointOf p self.old.causal before → IsPointOf p self.new.causal before }
+    fn accept(&mut self, call: &Call<S::Op>, out: &mut Outbox<S::Op>) -> Result<(), NoMemory>
+        requires { IsUpdateCall S.Op.kind_of (self.old.config.replicas + 1) call.now }
+        ensures did { let it = self.old in let end = call_taken it.me it.causal call.now (has_room it.causal) (has_number it.me it.causal) in
+            OnOk result (HasDone end self.new.causal out.old out.new) }
+        ensures undo { (row : ℕ) → CanUndo row self.old self.new }
     {
         if !self.causal.log().has_room() {
-            return refused(self.allocator(), Refusal::FullLog);
+            return refuse(Refusal::FullLog, out);
         }
         if self.causal.rep_ts().part(self.causal.me()) >= LAST_ITEM {
-            return refused(self.allocator(), Refusal::Worn);
+            return refuse(Refusal::Worn, out);
         }
         let (spot, stamp) = self.causal.accept(call)?;
         let cid = call.cid;
-        let line = Outcome::Accept { spot, cid };
-        replied(self.allocator(), line, cid, spot, stamp)
+        reply(Outcome::Accept { spot, cid }, cid, spot, stamp, out)
     }
 
     // A query is answered, or held until all that its label names is applied.
-    fn take_query(&mut self, call: &Call<S::Op>) -> Result<Acts<S::Op>, NoMemory>
+    fn on_query(&mut self, call: &Call<S::Op>, out: &mut Outbox<S::Op>) -> Result<(), NoMemory>
         requires { IsAsked S.Op.kind_of self.old.config call.now }
-        ensures acts { IfOk result (λ acts. AllFitting S.Op.kind_of self.old.config acts.items) }
-        ensures setting { self.new.config ≡ self.old.config }
-        ensures number { self.new.me ≡ self.old.me }
-        ensures did { IfOk result (λ acts. acts.items ≡ (query_taken S.meaning self.old.causal call.now (stamp_le call.now.prev self.old.causal.val_ts)).acts) }
-        ensures state { OnOk result (self.new.causal ≡ (query_taken S.meaning self.old.causal call.now (stamp_le call.now.prev self.old.causal.val_ts)).state) }
-        ensures point { (p : Saved S) (before : CausalState S S.Op) → IsPointOf p self.old.causal before → IsPointOf p self.new.causal before }
+        ensures did { let it = self.old.causal in
+            OnOk result (HasDone (query_taken S.meaning it call.now (stamp_le call.now.prev it.val_ts)) self.new.causal out.old out.new) }
+        ensures undo { (row : ℕ) → CanUndo row self.old self.new }
     {
         match self.causal.read(&call.prev, &call.op)? {
-            Some(text) => {
-                let mut acts = no_act(self.allocator());
-                self.send_answer(call.cid, text, &mut acts)?;
-                Ok(acts)
-            }
-            None => self.hold(call),
+            Some(text) => self.send_answer(call.cid, text, out),
+            None => self.hold(call, out),
         }
     }
 
-    fn hold(&mut self, call: &Call<S::Op>) -> Result<Acts<S::Op>, NoMemory>
+    fn hold(&mut self, call: &Call<S::Op>, out: &mut Outbox<S::Op>) -> Result<(), NoMemory>
         requires { IsAsked S.Op.kind_of self.old.config call.now }
-        ensures acts { IfOk result (λ acts. AllFitting S.Op.kind_of self.old.config acts.items) }
-        ensures setting { self.new.config ≡ self.old.config }
-        ensures number { self.new.me ≡ self.old.me }
-        ensures did { IfOk result (λ acts. acts.items ≡ (query_held self.old.causal call.now (nat_lt (length self.old.causal.held) 1024)).acts) }
-        ensures state { OnOk result (self.new.causal ≡ (query_held self.old.causal call.now (nat_lt (length self.old.causal.held) 1024)).state) }
-        ensures point { (p : Saved S) (before : CausalState S S.Op) → IsPointOf p self.old.causal before → IsPointOf p self.new.causal before }
+        ensures did { let it = self.old.causal in
+            OnOk result (HasDone (query_held it call.now (nat_lt (length it.held) 1024)) self.new.causal out.old out.new) }
+        ensures undo { (row : ℕ) → CanUndo row self.old self.new }
     {
         if self.causal.held().len() >= HELD_ROOM {
-            return refused(self.allocator(), Refusal::FullHeld);
+            return refuse(Refusal::FullHeld, out);
         }
         self.causal.hold(call)?;
-        say(self.allocator(), Outcome::Hold { cid: call.cid })
+        out.say(Outcome::Hold { cid: call.cid })
+    }
+
+    // Gossip is sent.
+    fn tell(&self, to: u8, out: &mut Outbox<S::Op>) -> Result<(), NoMemory>
+        ensures { let gossip = Message.Gossip (gossip_of self.now.causal) in
+            OnOk result (out.new ≡ after_acts out.old (Act.Send (Actor.Replica to) gossip ∷ [])) }
+    {
+        let gossip = self.causal.make_gossip()?;
+        out.send(Actor::Replica(to), Message::Gossip { gossip })
     }
 
     // What is ready is applied, and then held queries are answered, behind what the step did.
-    fn answer_ready(
-        &mut self,
-        acts: &mut Acts<S::Op>,
-        point: &mut Savepoint<S>,
-    ) -> Result<(), NoMemory>
-        requires { AllFitting S.Op.kind_of self.old.config acts.old.items }
-        ensures fitting { OnOk result (AllFitting S.Op.kind_of self.old.config acts.new.items) }
-        ensures setting { self.new.config ≡ self.old.config }
-        ensures number { self.new.me ≡ self.old.me }
-        ensures did { OnOk result (acts.new.items ≡ (ended S.meaning self.old.config.replicas self.old.causal acts.old.items).acts) }
-        ensures state { OnOk result (finished self.old.config.replicas self.new.causal ≡ (ended S.meaning self.old.config.replicas self.old.causal acts.old.items).state) }
-        ensures point { (before : CausalState S S.Op) → IsPointOf point.old self.old.causal before → IsPointOf point.new self.new.causal before }
+    fn settle(&mut self, point: &mut Savepoint<S>, out: &mut Outbox<S::Op>) -> Result<(), NoMemory>
+        ensures did { OnOk result (HasDone (settled S.meaning self.old.causal) self.new.causal out.old out.new) }
+        ensures same { IsSame self.old self.new }
+        ensures point { (before : CausalState S S.Op) → IsPointOf point.old self.old.causal before
+            → IsPointOf point.new self.new.causal before }
     {
         self.causal.apply(point)?;
-        self.answer_held(acts)
+        self.answer_held(out)
     }
 
     // Each held query whose label is now applied is answered.
-    fn answer_held(&self, acts: &mut Acts<S::Op>) -> Result<(), NoMemory>
-        requires { AllFitting S.Op.kind_of self.now.config acts.old.items }
-        ensures acts { OnOk result (AllFitting S.Op.kind_of self.now.config acts.new.items) }
-        ensures did { OnOk result (acts.new.items ≡ acts.old.items ++ held_acts S.meaning self.now.causal self.now.causal.held) }
+    fn answer_held(&self, out: &mut Outbox<S::Op>) -> Result<(), NoMemory>
+        ensures { let it = self.now.causal in OnOk result (out.new ≡ after_acts out.old (held_acts S.meaning it it.held)) }
     {
         for call in self.causal.held() {
-            self.answer(call, acts)?;
+            self.answer(call, out)?;
         }
         Ok(())
     }
 
     // A query is answered if its label is applied.
-    fn answer(&self, call: &Call<S::Op>, acts: &mut Acts<S::Op>) -> Result<(), NoMemory>
-        requires asked { IsAsked S.Op.kind_of self.now.config call.now }
-        requires fitting { AllFitting S.Op.kind_of self.now.config acts.old.items }
-        ensures acts { OnOk result (AllFitting S.Op.kind_of self.now.config acts.new.items) }
-        ensures did { OnOk result (acts.new.items ≡ acts.old.items ++ held_acts S.meaning self.now.causal (call.now ∷ [])) }
+    fn answer(&self, call: &Call<S::Op>, out: &mut Outbox<S::Op>) -> Result<(), NoMemory>
+        requires { IsAsked S.Op.kind_of self.now.config call.now }
+        ensures { OnOk result (out.new ≡ after_acts out.old (held_acts S.meaning self.now.causal (call.now ∷ []))) }
     {
         match self.causal.read(&call.prev, &call.op)? {
-            Some(text) => self.send_answer(call.cid, text, acts),
+            Some(text) => self.send_answer(call.cid, text, out),
             None => Ok(()),
         }
     }
 
     // Sends what a query is answered.
-    fn send_answer(&self, cid: Cid, text: Text, acts: &mut Acts<S::Op>) -> Result<(), NoMemory>
-        requires client { cid.client < self.now.config.clients }
-        requires fitting { AllFitting S.Op.kind_of self.now.config acts.old.items }
-        ensures acts { OnOk result (AllFitting S.Op.kind_of self.now.config acts.new.items) }
-        ensures did { OnOk result (acts.new.items ≡ acts.old.items ++ Act.Send (Actor.Client cid.client) (Message.Answer cid text self.now.causal.val_ts) ∷ []) }
+    fn send_answer(&self, cid: Cid, text: Text, out: &mut Outbox<S::Op>) -> Result<(), NoMemory>
+        ensures { let answer = Message.Answer cid text self.now.causal.val_ts in
+            OnOk result (out.new ≡ after_acts out.old (Act.Send (Actor.Client cid.client) answer ∷ [])) }
     {
         let stamp = self.causal.val_ts().copy();
         let to = Actor::Client(cid.client);
-        send(acts, to, Message::Answer { cid, text, stamp })
+        out.send(to, Message::Answer { cid, text, stamp })
     }
 
     /// What is printed of its state.
@@ -423,29 +383,29 @@ impl<S: Service> Replica<S> {
     }
 }
 
-fn refused<O: Operation>(alloc: Global, why: Refusal) -> Result<Acts<O>, NoMemory>
-    ensures { IfOk result (λ acts. acts.items ≡ Act.Say (Outcome.Refuse why) ∷ []) }
+// Nothing is done, and this is why.
+fn refuse<O: Operation>(why: Refusal, out: &mut Outbox<O>) -> Result<(), NoMemory>
+    ensures { OnOk result (out.new ≡ after_acts out.old (Act.Say (Outcome.Refuse why) ∷ [])) }
 {
-    say(alloc, Outcome::Refuse { why })
+    out.say(Outcome::Refuse { why })
 }
 
 // A line, and then the reply to an update.
-fn replied<O: Operation>(
-    alloc: Global,
+fn reply<O: Operation>(
     line: Outcome,
     cid: Cid,
     spot: Spot,
     stamp: Stamp,
-) -> Result<Acts<O>, NoMemory>
-    ensures { IfOk result (λ acts. acts.items ≡ Act.Say line ∷ Act.Send (Actor.Client cid.client) (Message.Done cid spot stamp) ∷ []) }
+    out: &mut Outbox<O>,
+) -> Result<(), NoMemory>
+    ensures { let done = Message.Done cid spot stamp in
+        OnOk result (out.new ≡ after_acts out.old (Act.Say line ∷ Act.Send (Actor.Client cid.client) done ∷ [])) }
 {
-    let mut acts = say(alloc, line)?;
-    send(
-        &mut acts,
+    out.say(line)?;
+    out.send(
         Actor::Client(cid.client),
         Message::Done { cid, spot, stamp },
-    )?;
-    Ok(acts)
+    )
 }
 
 #[cfg(test)]

@@ -1,10 +1,12 @@
-//! A world: all actors of a run, whose steps so far are a legal history.
+//! A world: a run with its steps so far, which are a legal history.
+ghost use Rattle.std.specs.Prelude.{◌≡◌, ◌∷◌, [], ◌++◌, IfOk, OnOk, OnErr};
+ghost use Rattle.lr_base.specs.Kinds.{has_rules as ruled};
 ghost use Rattle.lr_graph.specs.Made.{IsMade};
-ghost use Rattle.lr_world.specs.Worlds.{run_of, setup_of, steps_of};
+ghost use Rattle.lr_world.specs.Worlds.{run_of, setup_of};
 
-use crate::actors::Actors;
-use crate::copies::copy_event;
-use lr_base::lr_service::Service;
+use crate::copies::{copy_event, copy_outcomes};
+use crate::run::Run;
+use lr_base::lr_service::{Kind, Operation, Service};
 use lr_base::{Config, Event, NoMemory, Outcome, Rows, Step};
 use lr_graph::{a_made_history_goes_on, stamps_stand_for_sets, what_is_made_is_legal};
 use std::alloc::Global;
@@ -13,25 +15,26 @@ use std::marker::Model;
 /// The replicas, a front end for each client, every message that was sent, and the steps so far.
 #[derive(Drop)]
 pub struct World<S: Service> {
-    actors: Actors<S>,
-    ghost made: { ∥ IsMade S.meaning (setup_of actors) (steps_of actors) (run_of actors) ∥₁ },
+    run: Run<S>,
+    steps: Rows<Step<S::Op>>,
+    ghost made: { ∥ IsMade S.meaning (setup_of run) steps (run_of run) ∥₁ },
 }
 
 impl<S: Service> Model for World<S> {
-    ghost use Rattle.lr_world.specs.Worlds.{History, setup_of, steps_of};
+    ghost use Rattle.lr_world.specs.Worlds.{History, setup_of};
 
     ghost Value = { History S.Op };
 
-    ghost view = { λ it. record { config = setup_of it.actors; steps = steps_of it.actors } };
+    ghost view = { λ it. record { config = setup_of it.run; steps = it.steps } };
 }
 
 impl<S: Service> World<S> {
     ghost use Rattle.std.specs.Prelude.{◌≡◌, ◌↔◌, [], ◌∷◌, ◌++◌, length, IsTrue, IfOk, OnErr};
     ghost use Rattle.lr_base.specs.Config.{IsValid};
+    ghost use Rattle.lr_base.specs.Events.{IsEventOf};
     ghost use Rattle.lr_graph.specs.Central.{facts_after};
     ghost use Rattle.lr_graph.specs.Graph.{first_facts};
     ghost use Rattle.lr_graph.specs.Legal.{IsLegal};
-    ghost use Rattle.lr_world.specs.Shapes.{CallsPlain, IsInRange};
 
     /// A world in which nothing has happened.
     pub fn new(alloc: Global, config: Config) -> Result<Self, NoMemory>
@@ -39,15 +42,18 @@ impl<S: Service> World<S> {
         ensures { IfOk result (λ made. made ≡ record { config = config; steps = [] }) }
     {
         a_made_history_goes_on::<S>();
-        let actors = Actors::new(alloc, config)?;
-        Ok(World { actors })
+        let run = Run::new(alloc, config)?;
+        Ok(World {
+            run,
+            steps: Rows::new(alloc),
+        })
     }
 
     /// What the run is set up with.
     pub fn config(&self) -> Config
         ensures { result ≡ self.now.config }
     {
-        self.actors.config()
+        self.run.config()
     }
 
     /// The steps so far: a legal history.
@@ -56,7 +62,7 @@ impl<S: Service> World<S> {
         ensures legal { IsLegal S.meaning self.now.config self.now.steps }
     {
         what_is_made_is_legal::<S>();
-        self.actors.steps()
+        &self.steps
     }
 
     /// How many messages were sent. They are numbered from 1.
@@ -64,21 +70,22 @@ impl<S: Service> World<S> {
         ensures { result ≡ length (facts_after first_facts self.now.steps).messages }
     {
         stamps_stand_for_sets::<S>();
-        self.actors.sent()
+        self.run.sent()
     }
 
-    /// Whether an event names a client and replicas that there are; gossip goes to another replica.
+    /// Whether an event names a client and replicas that there are, gossip goes to another replica, and runs have rules for
+    /// the kind of operation that is called.
     pub fn fits(&self, event: &Event<S::Op>) -> bool
-        ensures { IsTrue result ↔ IsInRange self.now.config event.now }
+        ensures { IsTrue result ↔ IsEventOf S.meaning self.now.config event.now }
     {
-        let config = self.actors.config();
+        let config = self.run.config();
         match event {
             Event::Call {
                 client,
                 replica,
                 reading: _reading,
-                op: _op,
-            } => *client < config.clients && *replica < config.replicas,
+                op,
+            } => *client < config.clients && *replica < config.replicas && has_rules(S::kind(op)),
             Event::Deliver { message: _message } => true,
             Event::Gossip { from, to } => {
                 *from < config.replicas && *to < config.replicas && *from != *to
@@ -87,19 +94,53 @@ impl<S: Service> World<S> {
         }
     }
 
-    /// Makes one event, and answers what is printed of it. Where there is no memory, nothing has happened. It is asked for
-    /// events that fit; an operation that is forced or immediate has no rules yet.
+    /// Makes one event that fits, and answers what is printed of it. Where there is no memory, nothing has happened.
     pub fn step(&mut self, event: &Event<S::Op>) -> Result<Rows<Outcome>, NoMemory>
-        requires fits { IsInRange self.old.config event.now }
-        requires plain { CallsPlain S.meaning event.now }
+        requires { IsEventOf S.meaning self.old.config event.now }
         ensures ok { IfOk result (λ lines. self.new ≡ record self.old { steps = self.old.steps ++ record { event = event.now; outcomes = lines } ∷ [] }) }
         ensures legal { IsLegal S.meaning self.new.config self.new.steps }
         ensures err { OnErr result (self.new ≡ self.old) }
     {
-        let _ = &self.actors;
         a_made_history_goes_on::<S>();
         what_is_made_is_legal::<S>();
-        let noted = copy_event(event)?;
-        self.actors.step(event, noted)
+        let pending = self.run.begin(event)?;
+        match note(&mut self.steps, event, self.run.lines()) {
+            Ok(lines) => {
+                self.run.finish(pending);
+                Ok(lines)
+            }
+            Err(NoMemory) => {
+                self.run.undo(pending);
+                Err(NoMemory)
+            }
+        }
     }
+}
+
+// Whether runs have rules for operations of this kind.
+fn has_rules(kind: Kind) -> bool
+    ensures { result ≡ ruled kind }
+{
+    match kind {
+        Kind::Query | Kind::Causal => true,
+        Kind::Forced | Kind::Immediate => false,
+    }
+}
+
+// Notes an event with its lines behind the other steps, and answers these lines.
+fn note<O: Operation>(
+    steps: &mut Rows<Step<O>>,
+    event: &Event<O>,
+    lines: &[Outcome],
+) -> Result<Rows<Outcome>, NoMemory>
+    ensures lines { IfOk result (λ noted. noted ≡ lines.now) }
+    ensures ok { OnOk result (steps.new ≡ steps.old ++ record { event = event.now; outcomes = lines.now } ∷ []) }
+    ensures err { OnErr result (steps.new ≡ steps.old) }
+{
+    let alloc = steps.allocator();
+    let answer = copy_outcomes(alloc, lines)?;
+    let event = copy_event(event)?;
+    let outcomes = copy_outcomes(alloc, lines)?;
+    steps.push(Step { event, outcomes })?;
+    Ok(answer)
 }

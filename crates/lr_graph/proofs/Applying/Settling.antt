@@ -2,6 +2,7 @@
 use Rattle.std.proofs.Common.{◌≡◌, ℕ, zero, suc, ◌≤◌, Bool, true, false, not, inl, inr, List, [], ◌∷◌, length, Option, Some, None, is_some, refl, sym, ap, ◌∙◌, true≢false, arith}
 use Rattle.std.specs.Option.{option_map, option_map_or, option_or}
 use Rattle.lr_base.specs.Meaning.{Lawful, Meaning}
+use Rattle.lr_base.specs.Orders.{IsAmong}
 use Rattle.lr_base.specs.Rules.{CausalState, Progress, applied as after_applying, apply_one, apply_ready, is_covered, known_of, progress_of, take_ready, waiting}
 use Rattle.lr_base.specs.Stamps.{stamp_le}
 use Rattle.lr_base.specs.declared.lr_service.Kind.{Kind}
@@ -9,7 +10,7 @@ use Rattle.lr_base.specs.declared.messages.Known.{Known}
 use Rattle.lr_base.specs.declared.messages.LogUpdate.{LogUpdate}
 use Rattle.lr_base.specs.declared.names.Cid.{Cid}
 use Rattle.lr_base.specs.declared.names.Spot.{Spot}
-use Rattle.lr_graph.specs.Closed.{Each, HasOlderCauses, IsAmong, IsSound, causes}
+use Rattle.lr_graph.specs.Closed.{Each, HasOlderCauses, IsSound, causes}
 use Rattle.lr_graph.specs.Graph.{Acceptance, Kept, has_call, keep_new, kept_spot, least_spot, ready, value}
 use Rattle.lr_graph.specs.Names.{IsCounted, Names}
 use Rattle.lr_graph.specs.Sets.{SpotSet}

@@ -3,6 +3,7 @@ use Rattle.std.proofs.Common.{◌≡◌, ℕ, zero, suc, ◌<◌, ◌≤◌, nat
 use Rattle.std.proofs.lemmas.Bool.{lt-ltb}
 use Rattle.std.specs.Option.{option_or}
 use Rattle.lr_base.specs.Meaning.{Meaning}
+use Rattle.lr_base.specs.Orders.{IsAmong}
 use Rattle.lr_base.specs.Rules.{Progress, apply_one, is_before, known_of, same_cid, stamp_of}
 use Rattle.lr_base.specs.StampLaws.{parts-stamp_le, stamp_le-parts, stamp_le-trans}
 use Rattle.lr_base.specs.Stamps.{join, part, stamp_le}
@@ -10,7 +11,7 @@ use Rattle.lr_base.specs.declared.messages.Known.{Known}
 use Rattle.lr_base.specs.declared.messages.LogUpdate.{LogUpdate}
 use Rattle.lr_base.specs.declared.names.Cid.{Cid}
 use Rattle.lr_base.specs.declared.names.Spot.{Spot}
-use Rattle.lr_graph.specs.Closed.{Each, HasApartSpots, IsAmong, IsSound, causes}
+use Rattle.lr_graph.specs.Closed.{Each, HasApartSpots, IsSound, causes}
 use Rattle.lr_graph.specs.Graph.{Acceptance, Kept, has_call, kept_spot, least_spot, ready, value}
 use Rattle.lr_graph.specs.Names.{IsCounted, Names, spot_at}
 use Rattle.lr_graph.specs.Sets.{SpotSet, only, same_spot, ◌∪◌}

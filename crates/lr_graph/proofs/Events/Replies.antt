@@ -4,6 +4,7 @@ use Rattle.std.specs.List.{slice_get}
 use Rattle.std.specs.Option.{option_map}
 use Rattle.lr_base.specs.Fronts.{FrontEnding, FrontState, front_on_message, is_open, reply_acts}
 use Rattle.lr_base.specs.Meaning.{Meaning}
+use Rattle.lr_base.specs.Orders.{IsAmong}
 use Rattle.lr_base.specs.Rules.{same_cid}
 use Rattle.lr_base.specs.Stamps.{join}
 use Rattle.lr_base.specs.declared.events.Outcome.{Outcome}
@@ -18,7 +19,7 @@ use Rattle.lr_graph.specs.Graph.{Acceptance, AnswerReply, Carried, DoneReply, Fa
 use Rattle.lr_graph.specs.Legal.{message_lines, reply_line}
 use Rattle.lr_graph.specs.Runs.{RunState, front_ended, with_front}
 use Rattle.lr_graph.specs.Sets.{SpotSet, put_at, ◌∪◌}
-use Rattle.lr_graph.specs.Closed.{IsAmong, IsAccepted, IsSetOf, IsWithin}
+use Rattle.lr_graph.specs.Closed.{IsAccepted, IsSetOf, IsWithin}
 use Rattle.lr_graph.specs.Names.{Names}
 use Rattle.lr_graph.proofs.Events.FrontSteps.{front-changed, says-only}
 use Rattle.lr_graph.proofs.Lists.Members.{each-at, each-from, each-map}

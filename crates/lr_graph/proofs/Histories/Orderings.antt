@@ -4,14 +4,14 @@ use Rattle.lr_base.specs.Kinds.{IsUpdate, are_ordered, is_query}
 use Rattle.lr_base.specs.Events.{IsEventOf}
 use Rattle.lr_base.specs.Meaning.{Lawful, Meaning}
 use Rattle.lr_base.specs.OrderLaws.{apply_all-behind, before-first, before-second, one-value, ordered-opposites}
-use Rattle.lr_base.specs.Orders.{AgreeWhereOrdered, AreUpdates, HasEachOnce, HasSameUpdates, Keyed, apply_all}
+use Rattle.lr_base.specs.Orders.{AgreeWhereOrdered, AreUpdates, HasEachOnce, HasSameUpdates, IsAmong, Keyed, apply_all}
 use Rattle.lr_base.specs.Rules.{same_cid}
 use Rattle.lr_base.specs.declared.events.Step.{Step}
 use Rattle.lr_base.specs.declared.lr_service.Kind.{Kind}
 use Rattle.lr_base.specs.declared.names.Cid.{Cid}
 use Rattle.lr_base.specs.declared.names.Config.{Config}
 use Rattle.lr_graph.specs.Central.{facts_after}
-use Rattle.lr_graph.specs.Closed.{Each, HasApartSpots, HasOlderCauses, IsAmong, IsSound, causes}
+use Rattle.lr_graph.specs.Closed.{Each, HasApartSpots, HasOlderCauses, IsSound, causes}
 use Rattle.lr_graph.specs.Graph.{Acceptance, first_facts, has_call, ready, value}
 use Rattle.lr_graph.specs.Legal.{IsLegal}
 use Rattle.lr_graph.specs.Orderings.{FollowsCauses, IsOrderOf, everything}

@@ -1,7 +1,8 @@
 -- Elements of lists: facts about each, tests of all and of any, filtering and finding.
 use Rattle.std.proofs.Common.{◌≡◌, ◌≤◌, Bool, true, false, cond, ◌⊎◌, inl, inr, List, [], ◌∷◌, ◌++◌, length, filter, find, Option, Some, None, refl, sym, ap, ◌∙◌, subst, true≢false, arith}
 use Rattle.std.specs.List.{list_all, list_any}
-use Rattle.lr_graph.specs.Closed.{Each, IsAmong}
+use Rattle.lr_base.specs.Orders.{IsAmong}
+use Rattle.lr_graph.specs.Closed.{Each}
 use Rattle.lr_graph.proofs.Lists.Tests.{and-intro, and-left, and-right, or-cases, or-left, or-right}
 
 module _ {A : Type 0} where

@@ -1,9 +1,10 @@
 -- The order of spots, and logs in this order.
 use Rattle.std.proofs.Common.{◌≡◌, suc, ◌<◌, ◌≤◌, ◌≢◌, Bool, true, false, cond, ◌&&◌, ◌⊎◌, ◌==◌, inl, inr, nat_lt, List, [], ◌∷◌, refl, sym, ap, ◌∙◌, arith, eqb-true, eq-eqb, le-leb, leb-true, true≢false}
+use Rattle.lr_base.specs.Orders.{IsAmong}
 use Rattle.lr_base.specs.Rules.{is_before, put_update}
 use Rattle.lr_base.specs.declared.messages.LogUpdate.{LogUpdate}
 use Rattle.lr_base.specs.declared.names.Spot.{Spot}
-use Rattle.lr_graph.specs.Closed.{Each, IsAmong}
+use Rattle.lr_graph.specs.Closed.{Each}
 use Rattle.lr_graph.proofs.Lists.Members.{each-map}
 use Rattle.lr_graph.proofs.Lists.Tests.{and-intro, and-left, and-right, equal-or-not, le-or-lt, or-cases, or-left, or-right}
 use Rattle.lr_graph.proofs.Related.Ties.{IsAscending}

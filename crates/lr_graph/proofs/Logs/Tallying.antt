@@ -1,8 +1,9 @@
 -- How many acceptances a set has, and the least logged spot of a call.
 use Rattle.std.proofs.Common.{◌≡◌, ◌≢◌, ℕ, zero, suc, ◌+◌, ◌<◌, ◌≤◌, Bool, true, false, cond, ◌&&◌, ◌||◌, ◌==◌, ◌⊎◌, inl, inr, nat_le, List, [], ◌∷◌, ◌++◌, length, refl, sym, ap, ◌∙◌, arith, true≢false, eqb-true, eq-eqb, leb-true, le-leb}
+use Rattle.lr_base.specs.Orders.{IsAmong}
 use Rattle.lr_base.specs.Stamps.{part}
 use Rattle.lr_base.specs.declared.names.Spot.{Spot}
-use Rattle.lr_graph.specs.Closed.{Each, HasApartSpots, IsAmong, IsAccepted, IsSound}
+use Rattle.lr_graph.specs.Closed.{Each, HasApartSpots, IsAccepted, IsSound}
 use Rattle.lr_graph.specs.Graph.{Acceptance, counts, made}
 use Rattle.lr_graph.specs.Names.{IsCounted, spot_at}
 use Rattle.lr_graph.specs.Sets.{SpotSet, how_many, same_spot}

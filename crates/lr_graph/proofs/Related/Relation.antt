@@ -5,6 +5,7 @@ use Rattle.std.specs.Option.{option_map}
 use Rattle.lr_base.specs.Fronts.{FrontState}
 use Rattle.lr_base.specs.Kinds.{IsUpdate, has_rules}
 use Rattle.lr_base.specs.Meaning.{Meaning}
+use Rattle.lr_base.specs.Orders.{IsAmong}
 use Rattle.lr_base.specs.Replicas.{ReplicaState}
 use Rattle.lr_base.specs.Rules.{CausalState, same_cid}
 use Rattle.lr_base.specs.Stamps.{part}
@@ -19,7 +20,7 @@ use Rattle.lr_base.specs.declared.names.Actor.TheVariants.{Client, Replica}
 use Rattle.lr_base.specs.declared.names.Cid.{Cid}
 use Rattle.lr_base.specs.declared.names.Config.{Config}
 use Rattle.lr_base.specs.declared.names.Spot.{Spot}
-use Rattle.lr_graph.specs.Closed.{Each, IsAmong, IsAccepted, IsSetOf, IsSound, causes}
+use Rattle.lr_graph.specs.Closed.{Each, IsAccepted, IsSetOf, IsSound, causes}
 use Rattle.lr_graph.specs.Graph.{Acceptance, AnswerReply, GossipOf, Carried, DoneReply, Facts, FrontFacts, Kept, LabelledCall, QueryCopy, SentMessage, UpdateCopy, ready}
 use Rattle.lr_graph.specs.Legal.{logged}
 use Rattle.lr_graph.specs.Names.{IsCounted, Names}

@@ -1,6 +1,7 @@
 -- A replica that accepts a call.
 use Rattle.std.proofs.Common.{◌≡◌, ◌≢◌, ℕ, zero, suc, ◌+◌, ◌<◌, ◌≤◌, true, false, not, ◌&&◌, ◌||◌, ◌⊎◌, inl, inr, nat_lt, nat_le, List, ◌∷◌, refl, sym, ap, ◌∙◌, subst, arith, true≢false, le-leb, leb-true}
 use Rattle.lr_base.specs.Meaning.{Meaning}
+use Rattle.lr_base.specs.Orders.{IsAmong}
 use Rattle.lr_base.specs.Rules.{CausalState, accepted, put_update, stamp_of, update_of_call}
 use Rattle.lr_base.specs.StampLaws.{part-join, part-set_part, part-set_part_other, parts-stamp_le}
 use Rattle.lr_base.specs.Stamps.{part, set_part, stamp_le}
@@ -9,7 +10,7 @@ use Rattle.lr_base.specs.declared.messages.LogUpdate.{LogUpdate}
 use Rattle.lr_base.specs.declared.names.Cid.{Cid}
 use Rattle.lr_base.specs.declared.names.Config.{Config}
 use Rattle.lr_base.specs.declared.names.Spot.{Spot}
-use Rattle.lr_graph.specs.Closed.{Each, IsAmong, IsClosed, IsAccepted, IsSetOf, IsSound, IsWithin, causes}
+use Rattle.lr_graph.specs.Closed.{Each, IsClosed, IsAccepted, IsSetOf, IsSound, IsWithin, causes}
 use Rattle.lr_graph.specs.Graph.{Acceptance, Kept, LabelledCall, is_within, ready}
 use Rattle.lr_graph.specs.Names.{IsCounted, Names, spot_at}
 use Rattle.lr_graph.specs.Sets.{SpotSet, only, same_spot, ◌∪◌}

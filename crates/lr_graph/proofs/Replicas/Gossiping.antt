@@ -1,6 +1,7 @@
 -- A replica that takes gossip.
 use Rattle.std.proofs.Common.{◌≡◌, ℕ, suc, ◌<◌, ◌≤◌, Bool, true, false, not, ◌&&◌, ◌||◌, ◌⊎◌, inl, inr, nat_lt, nat_le, List, [], ◌∷◌, length, refl, sym, ap, ◌∙◌, subst, arith, true≢false, le-leb, leb-true}
 use Rattle.lr_base.specs.Meaning.{Meaning}
+use Rattle.lr_base.specs.Orders.{IsAmong}
 use Rattle.lr_base.specs.Rules.{CausalState, gossip_taken, is_new, new_updates, put_update, put_updates, stamp_of}
 use Rattle.lr_base.specs.StampLaws.{part-join, part-set_part, parts-stamp_le}
 use Rattle.lr_base.specs.Stamps.{join, part, stamp_le}
@@ -8,7 +9,7 @@ use Rattle.lr_base.specs.declared.messages.Gossip.{Gossip}
 use Rattle.lr_base.specs.declared.messages.LogUpdate.{LogUpdate}
 use Rattle.lr_base.specs.declared.names.Config.{Config}
 use Rattle.lr_base.specs.declared.names.Spot.{Spot}
-use Rattle.lr_graph.specs.Closed.{Each, IsAmong, IsSound}
+use Rattle.lr_graph.specs.Closed.{Each, IsSound}
 use Rattle.lr_graph.specs.Graph.{Acceptance, Kept, LabelledCall, ready, size_of}
 use Rattle.lr_graph.specs.Names.{IsCounted}
 use Rattle.lr_graph.specs.Sets.{SpotSet, ◌∪◌}

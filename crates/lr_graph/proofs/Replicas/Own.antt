@@ -2,6 +2,7 @@
 use Rattle.std.proofs.Common.{◌≡◌, ◌≢◌, ℕ, ◌+◌, ◌<◌, cond, not, ◌&&◌, inl, inr, List, [], ◌∷◌, ◌++◌, length, Option, refl, sym, ap, ◌∙◌, subst, arith}
 use Rattle.std.proofs.lemmas.List.{append-nil}
 use Rattle.lr_base.specs.Meaning.{Meaning}
+use Rattle.lr_base.specs.Orders.{IsAmong}
 use Rattle.lr_base.specs.Rules.{CausalState}
 use Rattle.lr_base.specs.Steps.{answer_act, done_act, refusing}
 use Rattle.lr_base.specs.declared.acts.Posted.{Posted}
@@ -15,7 +16,7 @@ use Rattle.lr_base.specs.declared.names.Actor.TheVariants.{Client, Replica}
 use Rattle.lr_base.specs.declared.names.Cid.{Cid}
 use Rattle.lr_base.specs.declared.names.Config.{Config}
 use Rattle.lr_base.specs.declared.names.Spot.{Spot}
-use Rattle.lr_graph.specs.Closed.{Each, HasApartSpots, IsAmong}
+use Rattle.lr_graph.specs.Closed.{Each, HasApartSpots}
 use Rattle.lr_graph.specs.Graph.{Acceptance, AnswerReply, DoneReply, Facts, LabelledCall, SentMessage, below_of, ready}
 use Rattle.lr_graph.specs.Legal.{answer_line, done_line, logged, next_number}
 use Rattle.lr_graph.specs.Names.{Names}

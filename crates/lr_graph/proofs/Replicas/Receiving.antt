@@ -3,6 +3,7 @@ use Rattle.std.proofs.Common.{◌≡◌, ◌≢◌, ℕ, ◌+◌, ◌<◌, Bool,
 use Rattle.std.proofs.lemmas.List.{append-nil}
 use Rattle.lr_base.specs.Kinds.{IsUpdate, has_rules}
 use Rattle.lr_base.specs.Meaning.{Meaning}
+use Rattle.lr_base.specs.Orders.{IsAmong}
 use Rattle.lr_base.specs.Rules.{CausalState, accepted, held_more, stamp_of, update_of_call}
 use Rattle.lr_base.specs.Stamps.{part}
 use Rattle.lr_base.specs.Steps.{done_act}
@@ -18,7 +19,7 @@ use Rattle.lr_base.specs.declared.names.Actor.TheVariants.{Client, Replica}
 use Rattle.lr_base.specs.declared.names.Cid.{Cid}
 use Rattle.lr_base.specs.declared.names.Config.{Config}
 use Rattle.lr_base.specs.declared.names.Spot.{Spot}
-use Rattle.lr_graph.specs.Closed.{IsAmong, IsAccepted, IsSetOf, IsSound}
+use Rattle.lr_graph.specs.Closed.{IsAccepted, IsSetOf, IsSound}
 use Rattle.lr_graph.specs.Graph.{Acceptance, Carried, DoneReply, Facts, LabelledCall, QueryCopy, SentMessage, UpdateCopy, below_of, ready}
 use Rattle.lr_graph.specs.Legal.{done_line, logged, next_number}
 use Rattle.lr_graph.specs.Names.{Names, spot_at}

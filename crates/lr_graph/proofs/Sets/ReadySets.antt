@@ -1,11 +1,12 @@
 -- What is ready, what is below an acceptance, and the sets that stamps stand for.
 use Rattle.std.proofs.Common.{◌≡◌, ◌≢◌, ℕ, ◌<◌, ◌≤◌, Bool, true, false, not, ◌&&◌, ◌||◌, ◌⊎◌, inl, inr, List, [], ◌∷◌, refl, sym, ap, ◌∙◌, subst, true≢false, arith}
+use Rattle.lr_base.specs.Orders.{IsAmong}
 use Rattle.lr_base.specs.Rules.{stamp_of}
 use Rattle.lr_base.specs.StampLaws.{part-join, part-set_part, part-set_part_other}
 use Rattle.lr_base.specs.Stamps.{part, join, set_part}
 use Rattle.lr_base.specs.declared.messages.LogUpdate.{LogUpdate}
 use Rattle.lr_base.specs.declared.names.Spot.{Spot}
-use Rattle.lr_graph.specs.Closed.{IsAmong, IsWithin, IsClosed, IsAccepted, IsSound, HasApartSpots, HasOlderCauses, causes}
+use Rattle.lr_graph.specs.Closed.{IsWithin, IsClosed, IsAccepted, IsSound, HasApartSpots, HasOlderCauses, causes}
 use Rattle.lr_graph.specs.Graph.{Acceptance, is_within, ready}
 use Rattle.lr_graph.specs.Names.{Names, spot_at}
 use Rattle.lr_graph.specs.Sets.{SpotSet, same_spot, only, ◌∪◌}

@@ -1,9 +1,10 @@
 -- A stamp is at most that of what is ready exactly where its set is received.
 use Rattle.std.proofs.Common.{◌≡◌, ℕ, zero, suc, ◌<◌, ◌≤◌, true, nat_lt, List, refl, sym, ap, ◌∙◌, arith, leb-true, le-leb}
+use Rattle.lr_base.specs.Orders.{IsAmong}
 use Rattle.lr_base.specs.StampLaws.{parts-stamp_le, stamp_le-parts}
 use Rattle.lr_base.specs.Stamps.{part, stamp_le}
 use Rattle.lr_base.specs.declared.names.Spot.{Spot}
-use Rattle.lr_graph.specs.Closed.{IsAmong, IsSetOf, IsSound, IsWithin}
+use Rattle.lr_graph.specs.Closed.{IsSetOf, IsSound, IsWithin}
 use Rattle.lr_graph.specs.Graph.{Acceptance, is_within, ready}
 use Rattle.lr_graph.specs.Names.{IsCounted, Names, spot_at}
 use Rattle.lr_graph.specs.Sets.{SpotSet}

@@ -2,6 +2,7 @@
 use Rattle.std.proofs.Common.{◌≡◌, ℕ, zero, suc, ◌<◌, ◌≤◌, max, Bool, true, false, cond, ◌&&◌, ◌==◌, ◌⊎◌, inl, inr, find, List, [], ◌∷◌, Option, Some, None, refl, sym, ap, ◌∙◌, subst, arith, true≢false, eqb-true, eq-eqb}
 use Rattle.std.specs.List.{slice_get}
 use Rattle.lr_base.specs.Meaning.{Meaning}
+use Rattle.lr_base.specs.Orders.{IsAmong}
 use Rattle.lr_base.specs.Replicas.{ReplicaState}
 use Rattle.lr_base.specs.Rules.{stamp_of}
 use Rattle.lr_base.specs.Stamps.{part, stamp_le}
@@ -12,7 +13,7 @@ use Rattle.lr_base.specs.declared.messages.Message.{Message}
 use Rattle.lr_base.specs.declared.names.Config.{Config}
 use Rattle.lr_base.specs.declared.names.Spot.{Spot}
 use Rattle.lr_graph.specs.Central.{CarriesStamp, HasStamps, IsCentral, IsHeldIn, IsUpdateIn, StandsForSet, greatest, joined}
-use Rattle.lr_graph.specs.Closed.{Each, HasApartSpots, HasOlderCauses, IsAmong, IsSetOf, IsSound, causes}
+use Rattle.lr_graph.specs.Closed.{Each, HasApartSpots, HasOlderCauses, IsSetOf, IsSound, causes}
 use Rattle.lr_graph.specs.Graph.{Acceptance, Carried, Facts, LabelledCall, SentMessage, is_within, ready}
 use Rattle.lr_graph.specs.Legal.{logged}
 use Rattle.lr_graph.specs.Names.{Names, spot_at}

@@ -1,11 +1,12 @@
 -- The executed calls that a state line lists, in the graph and by the rules.
 use Rattle.std.proofs.Common.{◌≡◌, Bool, true, false, cond, ◌⊎◌, inl, inr, List, [], ◌∷◌, map, Some, None, is_some, refl, sym, ap, ◌∙◌, true≢false}
 use Rattle.lr_base.specs.Ascending.{ascending, cid_before, put_cid}
+use Rattle.lr_base.specs.Orders.{IsAmong}
 use Rattle.lr_base.specs.Rules.{known_of, same_cid}
 use Rattle.lr_base.specs.declared.messages.Known.{Known}
 use Rattle.lr_base.specs.declared.names.Cid.{Cid}
 use Rattle.lr_base.specs.declared.names.Spot.{Spot}
-use Rattle.lr_graph.specs.Closed.{Each, IsAmong}
+use Rattle.lr_graph.specs.Closed.{Each}
 use Rattle.lr_graph.specs.Graph.{Acceptance, calls_of, has_call}
 use Rattle.lr_graph.specs.Names.{spot_at}
 use Rattle.lr_graph.specs.Sets.{SpotSet, put_call}

@@ -1,9 +1,10 @@
 -- What a state line lists of a replica, in the graph and by the rules.
 use Rattle.std.proofs.Common.{◌≡◌, suc, Bool, true, false, cond, ◌⊎◌, inl, inr, List, [], ◌∷◌, length, map, refl, sym, ap, ◌∙◌, subst, true≢false}
+use Rattle.lr_base.specs.Orders.{IsAmong}
 use Rattle.lr_base.specs.Rules.{is_before}
 use Rattle.lr_base.specs.declared.messages.LogUpdate.{LogUpdate}
 use Rattle.lr_base.specs.declared.names.Spot.{Spot}
-use Rattle.lr_graph.specs.Closed.{Each, HasApartSpots, IsAmong, IsSound}
+use Rattle.lr_graph.specs.Closed.{Each, HasApartSpots, IsSound}
 use Rattle.lr_graph.specs.Graph.{Acceptance, size_of, spots_of}
 use Rattle.lr_graph.specs.Sets.{SpotSet, put_spot, same_spot}
 use Rattle.lr_graph.proofs.Lists.Ascents.{Ascends, same-ascents}

@@ -7,7 +7,7 @@ ghost use Rattle.lr_graph.specs.Graph.{below_of as causes_below, is_within as al
 ghost use Rattle.lr_graph.specs.Told.{acceptance_of, is_ready_among, set_of};
 
 use crate::facts::items::AcceptedUpdate;
-use crate::facts::spots::{SpotList, is_same};
+use crate::facts::spots::SpotList;
 use lr_base::{NoMemory, Spot};
 use std::alloc::Global;
 
@@ -31,7 +31,7 @@ pub fn is_within<O>(accepted: &[AcceptedUpdate<O>], set: &SpotList, other: &Spot
 fn accepted_at<O>(accepted: &[AcceptedUpdate<O>], spot: Spot) -> Option<&AcceptedUpdate<O>>
     ensures { option_copied result ≡ find (λ a. same_spot spot a.spot) accepted.now }
 {
-    accepted.iter().find(|update| is_same(spot, update.spot))
+    accepted.iter().find(|update| spot == update.spot)
 }
 
 /// The causes of the acceptance at a spot, and itself: nothing where none is there.

@@ -1,6 +1,6 @@
 //! Sets of spots, as lists.
 ghost use Rattle.std.specs.Prelude.{◌≡◌, [], IfOk, OnOk};
-ghost use Rattle.lr_graph.specs.Sets.{only, same_spot, ◌∪◌};
+ghost use Rattle.lr_graph.specs.Sets.{only, ◌∪◌};
 ghost use Rattle.lr_graph.specs.Told.{set_of};
 
 use lr_base::{NoMemory, Rows, Spot};
@@ -20,13 +20,6 @@ impl Model for SpotList {
     ghost Value = { List Spot };
 
     ghost view = { λ list. list.spots };
-}
-
-/// Whether two spots are one.
-pub fn is_same(first: Spot, second: Spot) -> bool
-    ensures { result ≡ same_spot first second }
-{
-    first.place == second.place && first.number == second.number
 }
 
 impl SpotList {
@@ -50,10 +43,7 @@ impl SpotList {
     pub fn has(&self, spot: Spot) -> bool
         ensures { result ≡ set_of self.now spot }
     {
-        self.spots
-            .as_slice()
-            .iter()
-            .any(|known| is_same(spot, *known))
+        self.spots.as_slice().iter().any(|known| spot == *known)
     }
 
     /// Puts a spot into the set, where it isn't there.

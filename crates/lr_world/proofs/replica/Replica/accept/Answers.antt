@@ -1,20 +1,26 @@
-use Rattle.std.proofs.Common.{ap}
-use Rattle.lr_causal.specs.State.{config_of, state_of}
-use Rattle.lr_world.proofs.Answering.{AllAsked-along, IsPointOf-along}
+use Rattle.std.proofs.Common.{ap, subst}
+use Rattle.lr_causal.specs.Savepoint.{CanUndo}
+use Rattle.lr_causal.specs.State.{config_of, replica_of, state_of}
+use Rattle.lr_world.proofs.Answering.{AllAsked-along}
 use Rattle.lr_world.proofs.replica.Replica.accept.Goals as goal
 
 pub invariant_of-self : goal.invariant_of-self
 invariant_of-self g c =
     let it = c.self.inside.causal in
     let next = c.accept.new.self in
-    AllAsked-along g.S.Op.Operation.kind_of (config_of it) (config_of next) (state_of it).held (state_of next).held c.accept.ensures.config (ap (λ s. s.held) c.in_err-spot.ensures.err) c.self.invariant
+    AllAsked-along g.S.Op.Operation.kind_of (config_of it) (config_of next) (state_of it).held (state_of next).held
+    (c.accept.ensures.undo 0).same.setting (ap (λ s. s.held) c.in_err-spot.ensures.err) c.self.invariant
+
+pub returns-in_err-spot-clause-undo : goal.returns-in_err-spot-clause-undo
+returns-in_err-spot-clause-undo g c row = subst (λ r. CanUndo row r (replica_of c.accept.new.self)) c.self.view_is (c.accept.ensures.undo row)
 
 pub invariant_of-self-2 : goal.invariant_of-self-2
 invariant_of-self-2 g c =
     let it = c.self.inside.causal in
     let next = c.accept.new.self in
-    AllAsked-along g.S.Op.Operation.kind_of (config_of it) (config_of next) (state_of it).held (state_of next).held c.accept.ensures.config (ap (λ s. s.held) c.in_ok-spot.ensures.ok) c.self.invariant
+    AllAsked-along g.S.Op.Operation.kind_of (config_of it) (config_of next) (state_of it).held (state_of next).held
+    (c.accept.ensures.undo 0).same.setting (ap (λ s. s.held) c.in_ok-spot.ensures.ok) c.self.invariant
 
-pub returns-clause-point : goal.returns-clause-point
-returns-clause-point g c p before is =
-    c.accept.ensures.point p before (IsPointOf-along p (state_of c.self.inside.causal) c.args.self.now.causal before (ap (λ r. r.causal) c.self.view_is) is)
+pub returns-clause-undo : goal.returns-clause-undo
+returns-clause-undo g c row = subst (λ r. CanUndo row r (replica_of c.accept.new.self)) c.self.view_is (c.accept.ensures.undo row)
+

@@ -2,11 +2,11 @@ use Rattle.std.proofs.Common.{ℕ, ◌∙◌, ap, length, refl, sym}
 use Rattle.lr_causal.specs.State.{config_of, state_of}
 use Rattle.lr_world.proofs.Answering.{AllAsked-along, answered-more}
 use Rattle.lr_world.proofs.Everywhere.{each-read}
-use Rattle.lr_world.specs.Asked.{AllAsked, IsAsked}
+use Rattle.lr_world.specs.Sound.{AllAsked, IsAsked}
 use Rattle.lr_world.proofs.replica.Replica.answer_held.Goals as goal
 
-pub answer-requires-clause-asked : goal.answer-requires-clause-asked
-answer-requires-clause-asked g c =
+pub answer-requires : goal.answer-requires
+answer-requires g c =
     let it = c.self.inside.causal in
     let now = c.args.self.now in
     let calls = c.held-call-items.result.now in
@@ -17,8 +17,5 @@ pub loop-call-preserved : goal.loop-call-preserved
 loop-call-preserved g c =
     let now = c.args.self.now in
     let calls = c.held-call-items.result.now in
-    record {
-      fitting = c.in_ok-answer.ensures.acts;
-      did = answered-more g.S.Service.meaning now.causal calls now.causal.held c.loop-call.call-index c.call-item.result c.args.acts.now.items c.loop-call.acts.items c.answer.new.acts.items
-          (c.held-call-items.ensures ∙ ap (λ r. r.causal.held) c.self.view_is) c.loop-call-test.true c.call-item.is c.loop-call.invariant.did c.in_ok-answer.ensures.did;
-    }
+    answered-more g.S.Service.meaning now.causal calls now.causal.held c.loop-call.call-index c.call-item.result c.args.out.now c.loop-call.out c.answer.new.out
+    (c.held-call-items.ensures ∙ ap (λ r. r.causal.held) c.self.view_is) c.loop-call-test.true c.call-item.is c.loop-call.invariant c.in_ok-answer.ensures

@@ -4,7 +4,7 @@ use Rattle.lr_base.specs.Stamps.{stamp_le}
 use Rattle.lr_base.specs.declared.messages.Call.{Call}
 use Rattle.lr_causal.specs.State.{config_of, state_of}
 use Rattle.lr_world.proofs.Answering.{AllAsked-along, AllAsked-filter, AllAsked-pruned}
-use Rattle.lr_world.specs.Asked.{AllAsked}
+use Rattle.lr_world.specs.Sound.{AllAsked}
 use Rattle.lr_world.proofs.replica.Replica.finish.Goals as goal
 
 pub invariant_of-self : goal.invariant_of-self
@@ -14,6 +14,6 @@ invariant_of-self g c =
     let after = c.prune.new.self in
     let waits = λ (call : Call _). not (stamp_le call.prev (state_of it).val_ts) in
     let held : AllAsked g.S.Op.Operation.kind_of (config_of next) (state_of next).held =
-    AllAsked-along g.S.Op.Operation.kind_of (config_of it) (config_of next) (filter waits (state_of it).held) (state_of next).held c.drop_answered.ensures.config (ap (λ s. s.held) c.drop_answered.ensures.state)
+    AllAsked-along g.S.Op.Operation.kind_of (config_of it) (config_of next) (filter waits (state_of it).held) (state_of next).held c.drop_answered.ensures.same.setting (ap (λ s. s.held) c.drop_answered.ensures.state)
     (AllAsked-filter g.S.Op.Operation.kind_of (config_of it) waits (state_of it).held c.self.invariant) in
-    AllAsked-pruned g.S.Op.Operation.kind_of (config_of next) (config_of after) (state_of next) (state_of after) (config_of next).replicas c.prune.ensures.config c.prune.ensures.state held
+    AllAsked-pruned g.S.Op.Operation.kind_of (config_of next) (config_of after) (state_of next) (state_of after) (config_of next).replicas c.prune.ensures.same.setting c.prune.ensures.state held

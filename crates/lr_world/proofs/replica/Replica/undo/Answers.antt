@@ -10,4 +10,4 @@ invariant_of-self g c =
     let next = c.restore.new.self in
     let before = c.requires.0 in
     let point : IsPointOf c.args.point (state_of it) before = IsPointOf-along c.args.point (state_of it) c.args.self.now.causal before (ap (λ r. r.causal) c.self.view_is) c.requires.1 in
-    AllAsked-restored g.S.Op.Operation.kind_of (config_of it) (config_of next) (state_of it) (state_of next) c.args.point before c.restore.ensures.config point (c.restore.ensures.state before point) c.self.invariant
+    AllAsked-restored g.S.Op.Operation.kind_of (config_of it) (config_of next) (state_of it) (state_of next) c.args.point before c.restore.ensures.same.setting point (c.restore.ensures.state before point) c.self.invariant

@@ -1,0 +1,18 @@
+use Rattle.std.proofs.Common.{subst}
+use Rattle.lr_world.specs.Sound.{IsSound}
+use Rattle.lr_world.proofs.replica.Replica.keeps.Goals as goal
+
+pub returns : goal.returns
+returns g c =
+    let it = c.self.inside.causal in
+    subst (IsSound g.S.Op.Operation.kind_of) c.self.view_is record {
+      own_place = it.own_place;
+      rep_parts = it.rep_parts;
+      val_parts = it.val_parts;
+      imm_parts = it.imm_parts;
+      logged = it.logged;
+      updates_received = it.updates_received;
+      acks_received = it.acks_received;
+      known = it.known;
+      asked = c.self.invariant;
+    }

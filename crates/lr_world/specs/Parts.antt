@@ -1,0 +1,66 @@
+-- What a part of a step has done.
+use Rattle.std.specs.Prelude.{◌≡◌, ◌<◌, ◌++◌, ℕ, true, [], ◌∷◌}
+use Rattle.lr_base.specs.Fronts.{FrontEnding, FrontState}
+use Rattle.lr_base.specs.Meaning.{Meaning}
+use Rattle.lr_base.specs.Replicas.{ReplicaState}
+use Rattle.lr_base.specs.Rules.{CausalState, applied, gossip_of, pruned}
+use Rattle.lr_base.specs.Steps.{Ending, ended, held_acts, own_taken, still_held}
+use Rattle.lr_base.specs.declared.acts.Act.TheVariants.{Send}
+use Rattle.lr_base.specs.declared.lr_service.Kind.{Kind}
+use Rattle.lr_base.specs.declared.messages.Message.TheVariants.{Gossip as GossipMessage}
+use Rattle.lr_base.specs.declared.names.Actor.{Actor}
+use Rattle.lr_base.specs.declared.names.Actor.TheVariants.{Client, Replica}
+use Rattle.lr_base.specs.declared.names.Config.{Config}
+use Rattle.lr_world.specs.Outboxes.{Outboxed, after_acts}
+use Rattle.lr_world.specs.Shapes.{IsShaped, is_actor}
+use Rattle.lr_world.specs.declared.task.Task.{Task}
+use Rattle.lr_world.specs.declared.task.Task.TheVariants.{Take, Tell}
+
+-- a part of a replica's step ended so: this is its state, and what it did stands in the outbox behind what stood there
+pub record HasDone {Value Op : Type 0} (end : Ending Value Op) (state : CausalState Value Op) (before now : Outboxed Op) : Type 0 where
+  pub state_is : state ≡ end.state
+  pub acts_are : now ≡ after_acts before end.acts
+
+-- and so did a front end's
+pub record HasFrontDone {Op : Type 0} (end : FrontEnding Op) (front : FrontState) (before now : Outboxed Op) : Type 0 where
+  pub front_is : front ≡ end.front
+  pub acts_are : now ≡ after_acts before end.acts
+
+-- what a task itself does at a replica: a message is taken, or gossip is told
+abbrev pub own_of : {Value Op : Type 0} → Meaning Value Op → ReplicaState Value Op → Task Op → Ending Value Op
+own_of m r (Take from message) = own_taken m r.config r.me r.causal from message.now
+own_of m r (Tell to) = record { state = r.causal; acts = Send (Replica to) (GossipMessage (gossip_of r.causal)) ∷ [] }
+
+-- what a task comes to, to the end of the step
+abbrev pub end_of : {Value Op : Type 0} → Meaning Value Op → ReplicaState Value Op → Task Op → Ending Value Op
+end_of m r task = let own = own_of m r task in ended m r.config.replicas own.state own.acts
+
+-- what is ready is applied, and then held queries are answered
+abbrev pub settled : {Value Op : Type 0} → Meaning Value Op → CausalState Value Op → Ending Value Op
+settled m state = let now = applied m state in record { state = now; acts = held_acts m now now.held }
+
+-- a task up to what can't fail
+abbrev pub begun : {Value Op : Type 0} → Meaning Value Op → ReplicaState Value Op → Task Op → Ending Value Op
+begun m r task =
+    let own = own_of m r task in
+    let end = settled m own.state in
+    record { state = end.state; acts = own.acts ++ end.acts }
+
+-- a step's end that can't fail: answered queries are held no more, and what is known everywhere leaves
+abbrev pub finished : {Value Op : Type 0} → ℕ → CausalState Value Op → CausalState Value Op
+finished replicas state = pruned replicas (still_held state)
+
+-- a task of this run: its message has its shape and a sender that there is, or it tells a replica that there is
+abbrev pub IsTask : {Op : Type 0} → (Op → Kind) → Config → Task Op → Type 0
+IsTask kind_of config (Take from message) = (is_actor config from ≡ true) × IsShaped kind_of config message.now
+IsTask kind_of config (Tell to) = to < config.replicas
+
+-- a message of a replica may tell more of what that replica has received, and a client's nothing
+abbrev pub row_of : ℕ → Actor → ℕ
+row_of me (Client client) = me
+row_of me (Replica from) = from
+
+-- of what this replica was heard to have received a task may tell more
+abbrev pub heard_in : {Op : Type 0} → ℕ → Task Op → ℕ
+heard_in me (Take from message) = row_of me from
+heard_in me (Tell to) = me

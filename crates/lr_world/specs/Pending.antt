@@ -1,0 +1,102 @@
+-- Steps of a run that are made up to what can't fail.
+use Rattle.std.specs.Prelude.{◌≡◌, ◌<◌, ◌++◌, ℕ, List, [], Option, Some, None, length, set, slice_get, take}
+use Rattle.std.specs.Option.{ForSome}
+use Rattle.lr_base.specs.Meaning.{Meaning}
+use Rattle.lr_base.specs.Replicas.{ReplicaState}
+use Rattle.lr_base.specs.declared.acts.Posted.{Posted}
+use Rattle.lr_base.specs.declared.events.Outcome.{Outcome}
+use Rattle.lr_base.specs.declared.names.Actor.TheVariants.{Replica}
+use Rattle.lr_base.specs.declared.names.Config.{Config}
+use Rattle.lr_causal.specs.Savepoint.{IsPointOf, IsSame, Saved}
+use Rattle.lr_graph.specs.Runs.{RunState, Stepped, given, replica_gossips, unchanged, with_front}
+use Rattle.lr_world.specs.Outboxes.{Outboxed}
+use Rattle.lr_world.specs.Parts.{finished}
+use Rattle.lr_world.specs.Posts.{IsFront}
+use Rattle.lr_world.specs.declared.pending.Acting.{Acting}
+use Rattle.lr_world.specs.declared.pending.Acting.TheVariants.{Nobody, AtFront, AtReplica}
+use Rattle.lr_world.specs.declared.pending.Order.{Order}
+use Rattle.lr_world.specs.declared.pending.Order.TheVariants.{Take, Tell}
+use Rattle.lr_world.specs.declared.pending.Pending.{Pending}
+use Rattle.lr_world.specs.declared.task.Task.{Task}
+use Rattle.lr_world.specs.declared.task.Task.TheVariants.{Take as TakeTask, Tell as TellTask}
+
+-- who acts is one of the run's, and its front end is one of the run
+abbrev pub IsActing : {Value Op : Type 0} → Config → Acting Value Op → Type 0
+IsActing config Nobody = Unit {0}
+IsActing config (AtFront client front) = (client < config.clients) × IsFront config client front
+IsActing config (AtReplica me point) = me < config.replicas
+
+-- a replica ends its step
+abbrev pub replica_finished : {Value Op : Type 0} → RunState Value Op → ℕ → Option (ReplicaState Value Op) → RunState Value Op
+replica_finished run me None = run
+replica_finished run me (Some r) = record run {
+  replicas = set run.replicas me (record r { causal = finished r.config.replicas r.causal });
+}
+
+-- the run once the step is finished
+abbrev pub completed : {Value Op : Type 0} → Acting Value Op → RunState Value Op → RunState Value Op
+completed Nobody run = run
+completed (AtFront client front) run = with_front run client front
+completed (AtReplica me point) run = replica_finished run me (slice_get run.replicas me)
+
+-- one of the replicas has begun a step, and its savepoint gives back what it was
+pub record HasBegunAt {Value Op : Type 0} (me : ℕ) (point : Saved Value) (before now : List (ReplicaState Value Op)) : Type 0 where
+  pub was : ReplicaState Value Op
+  pub is : ReplicaState Value Op
+  pub at_place : slice_get before me ≡ Some was
+  pub replaced : now ≡ set before me is
+  pub same : IsSame was is
+  pub undoes : IsPointOf point is.causal was.causal
+
+-- the replicas are those of before, but for one that has begun a step
+abbrev pub HaveBegun : {Value Op : Type 0} → Acting Value Op → List (ReplicaState Value Op) → List (ReplicaState Value Op) → Type 0
+HaveBegun Nobody before now = now ≡ before
+HaveBegun (AtFront client front) before now = now ≡ before
+HaveBegun (AtReplica me point) before now = HasBegunAt me point before now
+
+-- from this run the step can be taken back, which gives the run before
+pub record CanTakeBack {Value Op : Type 0} (pending : Pending Value Op) (before now : RunState Value Op) : Type 0 where
+  pub sent : take pending.sent now.posted ≡ before.posted
+  pub fronts : now.fronts ≡ before.fronts
+  pub replicas : HaveBegun pending.who before.replicas now.replicas
+
+-- a step is made up to what can't fail: finished it is this one, these are its lines, and it can be taken back
+pub record HasBegun {Value Op : Type 0} (config : Config) (made : Stepped Value Op) (before now : RunState Value Op) (lines : List Outcome) (pending : Pending Value Op) : Type 0 where
+  pub acting : IsActing config pending.who
+  pub finishes : completed pending.who now ≡ made.run
+  pub printed : lines ≡ made.outcomes
+  pub undoes : CanTakeBack pending before now
+
+-- a message that was sent is given to a replica
+abbrev pub message_given : {Value Op : Type 0} → Meaning Value Op → RunState Value Op → ℕ → Option (Posted Op) → Stepped Value Op
+message_given m run me None = unchanged run []
+message_given m run me (Some p) = given m run (Replica me) p.from p.message
+
+-- what becomes of an order to a replica: it takes a message, or sends gossip
+abbrev pub ordered : {Value Op : Type 0} → Meaning Value Op → RunState Value Op → ℕ → Order → Stepped Value Op
+ordered m run me (Take at) = message_given m run me (slice_get run.posted at)
+ordered m run me (Tell to) = replica_gossips m run me to (slice_get run.replicas me)
+
+-- an order that can be given: there is a message at the index
+abbrev pub IsWithin : {Op : Type 0} → List (Posted Op) → Order → Type 0
+IsWithin posted (Take at) = at < length posted
+IsWithin posted (Tell to) = Unit {0}
+
+-- an order of this run: a replica that is told is one of the run's
+abbrev pub IsOrderOf : Config → Order → Type 0
+IsOrderOf config (Take at) = Unit {0}
+IsOrderOf config (Tell to) = to < config.replicas
+
+-- the task of an order: the message at the index with its sender, or whom to tell
+abbrev pub IsTaskOf : {Op : Type 0} → List (Posted Op) → Order → Task Op → Type 0
+IsTaskOf posted (Take at) (TakeTask from message) = ForSome (slice_get posted at) (λ p. (p.from ≡ from) × (p.message ≡ message.now))
+IsTaskOf posted (Take at) (TellTask to) = ⊥
+IsTaskOf posted (Tell to) (TakeTask from message) = ⊥
+IsTaskOf posted (Tell to) (TellTask told) = told ≡ to
+
+-- these messages of an actor are sent, and nothing else has changed
+pub record HasSent {Value Op : Type 0} (who : Acting Value Op) (out : Outboxed Op) (before now : RunState Value Op) (lines : List Outcome) (pending : Pending Value Op) : Type 0 where
+  pub actor : pending.who ≡ who
+  pub number : pending.sent ≡ length before.posted
+  pub run : now ≡ record before { posted = before.posted ++ out.posts }
+  pub printed : lines ≡ out.lines

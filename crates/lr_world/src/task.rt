@@ -1,0 +1,13 @@
+//! What a replica is given to do.
+use lr_base::{Actor, Message};
+
+/// A replica's part of an event.
+pub enum Task<'a, O: Drop> {
+    /// It takes a message that was sent to it.
+    Take {
+        from: Actor,
+        message: &'a Message<O>,
+    },
+    /// It sends gossip to another replica.
+    Tell { to: u8 },
+}
