@@ -8,7 +8,8 @@ use Rattle.lr_sim.specs.Ends.{IsComplete, SimEnded, SimMeans}
 use Rattle.lr_sim.specs.declared.command.SimEnd.{SimEnd}
 use Rattle.lr_sim.specs.declared.command.SimEnd.TheVariants.{Ok as Done, Script, ReadFault, WriteFault, NoMemory}
 use Rattle.lr_script.specs.declared.refusals.Cause.{Cause}
-use Rattle.lr_script.specs.declared.refusals.Cause.TheVariants.{TooLong, Unended, Byte, Header, Event, Fields, Number, Range, Op}
+use Rattle.lr_script.specs.declared.refusals.Cause.TheVariants.{TooLong, Unended, Byte, Header, Event}
+use Rattle.lr_script.specs.declared.refusals.Cause.TheVariants.{Fields, Number, Range, Op}
 
 -- there are two words, and the second is `sim`
 abbrev pub IsSim : List (String Global) → Type 0
@@ -46,7 +47,8 @@ code_of NoMemory = 6
 -- what is told of a simulation's end: nothing where it is done
 abbrev pub text_of : SimEnd → List ℕ
 text_of Done = []
-text_of (Script number cause) = codes "lazyrep: line " ++ (decimal number ++ (codes ": " ++ text_line (cause_text cause)))
+text_of (Script number cause) =
+    codes "lazyrep: line " ++ (decimal number ++ (codes ": " ++ text_line (cause_text cause)))
 text_of ReadFault = text_line (codes "lazyrep: read fault")
 text_of WriteFault = text_line (codes "lazyrep: write fault")
 text_of NoMemory = text_line (codes "lazyrep: no memory")
@@ -55,15 +57,20 @@ text_of NoMemory = text_line (codes "lazyrep: no memory")
 abbrev pub IsCode : ℕ → Type 0
 IsCode code = (code ≡ 0) ⊎ (code ≡ 2) ⊎ (code ≡ 3) ⊎ (code ≡ 4) ⊎ (code ≡ 5) ⊎ (code ≡ 6)
 
--- this end was told on standard error where that didn't fail, or that there was no memory for a script's fault, and the status says which
-pub record Told (err_before err_now : ℕ) (told_before told_now : Option (List ℕ)) (end : SimEnd) (code : ℕ) : Type 0 where
+-- this end was told on standard error where that didn't fail, or that there was no memory for a script's fault, and the
+-- status says which
+pub record Told (err_before err_now : ℕ) (told_before told_now : Option (List ℕ))
+    (end : SimEnd) (code : ℕ) : Type 0 where
   pub end_told : SimEnd
   pub same : (end_told ≡ end) ⊎ ((line : ℕ) × (cause : Cause) × (end ≡ Script line cause) × (end_told ≡ NoMemory))
   pub status : code ≡ code_of end_told
   pub told : ¬ (Rose err_before err_now) → Appends told_before told_now (text_of end_told)
 
--- the exit status is that of an end of the simulation, which means what it says of the bytes left and held; where neither source nor sink met a fault it is complete, and where standard error didn't fail that end was told there
-pub record SimStatus {Out : Type 0} (left_before left_now held_before held_now : Option (List ℕ)) (read_before read_now write_before write_now : ℕ) (out_before out_now : Out) (err_before err_now : ℕ) (told_before told_now : Option (List ℕ)) (code : ℕ) : Type 0 where
+-- the exit status is that of an end of the simulation, which means what it says of the bytes left and held; where
+-- neither source nor sink met a fault it is complete, and where standard error didn't fail that end was told there
+pub record SimStatus {Out : Type 0} (left_before left_now held_before held_now : Option (List ℕ))
+    (read_before read_now write_before write_now : ℕ) (out_before out_now : Out)
+    (err_before err_now : ℕ) (told_before told_now : Option (List ℕ)) (code : ℕ) : Type 0 where
   pub end : SimEnd
   pub meant : SimMeans left_before left_now held_before held_now end
   pub ended : SimEnded read_before read_now write_before write_now out_before out_now end

@@ -39,8 +39,12 @@ pub fn lazyrep_top<R: Source, W: Sink, E: Sink>(
     ensures usage { (result.code ≡ 2) ↔ ¬ (IsSim words.now) }
     ensures unread { result.code ≡ 2 → input.new ≡ input.old }
     ensures unwritten { result.code ≡ 2 → out.new ≡ out.old }
-    ensures usage_told { result.code ≡ 2 → ¬ (Rose (E.faults err.old) (E.faults err.new)) → Appends (E.held err.old) (E.held err.new) usage_text }
-    ensures sim { IsSim words.now → SimStatus (R.left input.old) (R.left input.new) (W.held out.old) (W.held out.new) (R.faults input.old) (R.faults input.new) (W.faults out.old) (W.faults out.new) out.old out.new (E.faults err.old) (E.faults err.new) (E.held err.old) (E.held err.new) result.code }
+    ensures usage_told { result.code ≡ 2 → ¬ (Rose (E.faults err.old) (E.faults err.new))
+        → Appends (E.held err.old) (E.held err.new) usage_text }
+    ensures sim { IsSim words.now → SimStatus
+        (R.left input.old) (R.left input.new) (W.held out.old) (W.held out.new)
+        (R.faults input.old) (R.faults input.new) (W.faults out.old) (W.faults out.new) out.old out.new
+        (E.faults err.old) (E.faults err.new) (E.held err.old) (E.held err.new) result.code }
 {
     if !is_sim(words) {
         return tell(err, USAGE, 2);

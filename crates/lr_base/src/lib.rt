@@ -28,6 +28,6 @@ pub use limits::{
 };
 pub use messages::{Call, Fresh, Gossip, Known, LogAck, LogUpdate, Message};
 pub use names::{Actor, Cid, Config, Spot};
-pub use numbers::read_number;
+pub use numbers::{put_number, read_number};
 pub use rows::{NoMemory, Rows, Text};
 pub use stamp::Stamp;

@@ -1,8 +1,25 @@
 //! Numbers as they are written in operations and scripts: decimal, with no leading zero.
-ghost use Rattle.std.specs.Prelude.{◌≡◌, ◌≢◌, ℕ, ◌+◌, ◌*◌, ◌^◌, ◌<◌, ◌≤◌, IfSome, IsNone};
+ghost use Rattle.std.specs.Prelude.{◌≡◌, ◌≢◌, ℕ, ◌+◌, ◌*◌, ◌^◌, ◌<◌, ◌≤◌, ◌++◌, IfSome, IsNone, OnOk, OnErr};
 ghost use Rattle.std.specs.Char.{digit_value};
 ghost use Rattle.std.specs.Fmt.{decimal};
 ghost use Rattle.std.specs.Str.Parse.{AllDigits, digits_value};
+
+use crate::rows::{NoMemory, Text};
+use itoa::Buffer;
+
+/// Adds the number in decimal behind `out`. Takes no memory but that of `out`.
+#[tactic(auto, using(std::proofs::lemmas::Fmt::decimal_digit))]
+pub fn put_number(number: u64, out: &mut Text) -> Result<(), NoMemory>
+    ensures ok { OnOk result (out.new ≡ out.old ++ decimal number) }
+    ensures err { OnErr result (out.new ≡ out.old) }
+{
+    // Most numbers have one digit.
+    if number < 10 {
+        return out.push(b'0' + number as u8);
+    }
+    let mut buffer = Buffer::new();
+    out.extend(buffer.format(number).as_bytes())
+}
 
 /// The number below 2^64 that is written so. Takes no memory.
 pub fn read_number(text: &[u8]) -> Option<u64>

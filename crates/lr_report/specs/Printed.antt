@@ -3,9 +3,9 @@ use Rattle.std.specs.Prelude.{ℕ, ◌+◌, List, [], ◌∷◌, ◌++◌, codes
 use Rattle.std.specs.Fmt.{decimal}
 use Rattle.std.specs.List.{flat_map}
 use Rattle.lr_base.specs.Meaning.{Meaning}
-use Rattle.lr_base.specs.declared.events.Event.{Event}
 use Rattle.lr_base.specs.declared.events.Outcome.{Outcome}
-use Rattle.lr_base.specs.declared.events.Outcome.TheVariants.{Send, Accept, Hold, Take, Got, Stale, NoMessage, Refuse, State}
+use Rattle.lr_base.specs.declared.events.Outcome.TheVariants.{Send, Accept, Hold, Take, Got, Stale}
+use Rattle.lr_base.specs.declared.events.Outcome.TheVariants.{NoMessage, Refuse, State}
 use Rattle.lr_base.specs.declared.events.Refusal.{Refusal}
 use Rattle.lr_base.specs.declared.events.Refusal.TheVariants.{Late, Again, Settled, FullLog, FullHeld, Worn, Unfinished}
 use Rattle.lr_base.specs.declared.events.Sent.{Sent}
@@ -47,19 +47,29 @@ refusal_text replicas (Unfinished cid) = codes "open " ++ cid_text cid
 
 -- a state's first fields: the replica, its view and its clock
 abbrev pub clock_fields : StateLine → List ℕ
-clock_fields line = codes "state r" ++ (decimal line.replica ++ (codes " view " ++ (decimal line.view ++ (codes " clock " ++ decimal line.clock))))
+clock_fields line =
+    codes "state r" ++ (decimal line.replica
+    ++ (codes " view " ++ (decimal line.view ++ (codes " clock " ++ decimal line.clock))))
 
 -- a state's next fields: the stamp of what was received, and the spots of the updates and of the acks in the log
 abbrev pub log_fields : ℕ → StateLine → List ℕ
-log_fields replicas line = codes " received " ++ (joined_by (codes ".") decimal line.received ++ (codes " log " ++ (joined_by (codes ",") (spot_text replicas) line.log ++ (codes " acks " ++ joined_by (codes ",") (spot_text replicas) line.acks))))
+log_fields replicas line =
+    codes " received " ++ (joined_by (codes ".") decimal line.received
+    ++ (codes " log " ++ (joined_by (codes ",") (spot_text replicas) line.log
+    ++ (codes " acks " ++ joined_by (codes ",") (spot_text replicas) line.acks))))
 
 -- a state's last fields: the calls that it knows, the queries that it holds, and its marks
 abbrev pub call_fields : StateLine → List ℕ
-call_fields line = codes " calls " ++ (joined_by (codes ",") cid_text line.calls ++ (codes " held " ++ (joined_by (codes ",") cid_text line.held ++ (codes " frozen " ++ joined_by (codes ",") mark_text line.marks))))
+call_fields line =
+    codes " calls " ++ (joined_by (codes ",") cid_text line.calls
+    ++ (codes " held " ++ (joined_by (codes ",") cid_text line.held
+    ++ (codes " frozen " ++ joined_by (codes ",") mark_text line.marks))))
 
 -- an outcome, in a run with so many replicas
 abbrev pub outcome_text : ℕ → Outcome → List ℕ
-outcome_text replicas (Send number from to what) = codes "send " ++ (decimal number ++ (codes " " ++ (actor_text from ++ (codes " " ++ (actor_text to ++ (codes " " ++ sent_text replicas what))))))
+outcome_text replicas (Send number from to what) =
+    codes "send " ++ (decimal number ++ (codes " " ++ (actor_text from
+    ++ (codes " " ++ (actor_text to ++ (codes " " ++ sent_text replicas what))))))
 outcome_text replicas (Accept spot cid) = codes "accept " ++ (spot_text replicas spot ++ (codes " " ++ cid_text cid))
 outcome_text replicas (Hold cid) = codes "hold " ++ cid_text cid
 outcome_text replicas (Take count) = codes "take " ++ decimal count
@@ -73,13 +83,18 @@ outcome_text replicas (State line) = clock_fields line ++ (log_fields replicas l
 abbrev pub outcome_line : ℕ → Outcome → List ℕ
 outcome_line replicas outcome = codes "  " ++ line_of (outcome_text replicas outcome)
 
--- an event's line: its number stands before it
-abbrev pub event_line : {Value Op : Type 0} → Meaning Value Op → ℕ → Event Op → List ℕ
-event_line m number event = decimal number ++ (codes ": " ++ line_of (event_text m event))
+-- an event's line: its number stands before the event's text
+abbrev pub event_line : ℕ → List ℕ → List ℕ
+event_line number text = decimal number ++ (codes ": " ++ line_of text)
+
+-- the line of an event of this text, and those of what it did
+abbrev pub lines_of_step : Config → ℕ → List ℕ → List Outcome → List ℕ
+lines_of_step config number text outcomes =
+    event_line number text ++ flat_map (outcome_line config.replicas) outcomes
 
 -- an event's line and those of what it did
 abbrev pub step_text : {Value Op : Type 0} → Meaning Value Op → Config → ℕ → Step Op → List ℕ
-step_text m config number step = event_line m number step.event ++ flat_map (outcome_line config.replicas) step.outcomes
+step_text m config number step = lines_of_step config number (event_text m step.event) step.outcomes
 
 -- the lines of several steps, the first of which has this number
 abbrev pub steps_text : {Value Op : Type 0} → Meaning Value Op → Config → ℕ → List (Step Op) → List ℕ

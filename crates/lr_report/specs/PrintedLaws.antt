@@ -7,12 +7,17 @@ use Rattle.lr_base.specs.declared.names.Config.{Config}
 use Rattle.lr_report.specs.Printed.{step_text, steps_text}
 
 -- one more step's lines stand behind those of the steps before it
-pub steps_text-more : {Value Op : Type 0} (m : Meaning Value Op) (config : Config) (number : ℕ) (steps : List (Step Op)) (step : Step Op) → steps_text m config number (steps ++ step ∷ []) ≡ steps_text m config number steps ++ step_text m config (number + length steps) step
+pub steps_text-more : {Value Op : Type 0} (m : Meaning Value Op) (config : Config) (number : ℕ)
+    (steps : List (Step Op)) (step : Step Op)
+    → steps_text m config number (steps ++ step ∷ [])
+    ≡ steps_text m config number steps ++ step_text m config (number + length steps) step
 steps_text-more m config number [] step =
     let same : number + 0 ≡ number = omega arith in
     rw same (append-nil (step_text m config number step))
 steps_text-more m config number (first ∷ steps) step =
     let same : (number + 1) + length steps ≡ number + length (first ∷ steps) = omega arith in
-    ap (λ text. step_text m config number first ++ text) (steps_text-more m config (number + 1) steps step)
-    ∙ ap (λ at. step_text m config number first ++ (steps_text m config (number + 1) steps ++ step_text m config at step)) same
-    ∙ sym (append_assoc (step_text m config number first) (steps_text m config (number + 1) steps) _)
+    let head = step_text m config number first in
+    let more = steps_text m config (number + 1) steps in
+    ap (λ text. head ++ text) (steps_text-more m config (number + 1) steps step)
+    ∙ ap (λ at. head ++ (more ++ step_text m config at step)) same
+    ∙ sym (append_assoc head more _)

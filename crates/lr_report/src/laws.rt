@@ -12,7 +12,9 @@ use lr_script::an_event_has_one_line;
 /// Under one header, histories whose answers hold no line feed have different texts.
 /// Their numbers have to fit in 64 bits, and the operations that they call have to be the service's.
 pub fn printed_tells_histories_apart<S: Service>()
-    ensures { (header : Header) (a b : List (Step S.Op)) → All (IsTellable S.meaning) a → All (IsTellable S.meaning) b → printed S.meaning header a ≡ printed S.meaning header b → a ≡ b }
+    ensures { (header : Header) (a b : List (Step S.Op))
+        → All (IsTellable S.meaning) a → All (IsTellable S.meaning) b
+        → printed S.meaning header a ≡ printed S.meaning header b → a ≡ b }
 {
     an_event_has_one_line::<S>();
 }

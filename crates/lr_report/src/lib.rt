@@ -6,8 +6,6 @@ mod names;
 mod outcome_lines;
 mod rendering;
 mod state_lines;
-#[cfg(test)]
-mod tests;
 
 pub use laws::printed_tells_histories_apart;
-pub use rendering::{render_header, render_step};
+pub use rendering::{render_header, render_printed_step, render_step};

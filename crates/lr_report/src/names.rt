@@ -1,25 +1,10 @@
 //! Numbers, names and lists of them, as they are printed.
 ghost use Rattle.std.specs.Prelude.{◌≡◌, ◌++◌, codes, length, OnOk};
-ghost use Rattle.std.specs.Fmt.{decimal};
 ghost use Rattle.std.specs.List.{flat_map};
 ghost use Rattle.lr_report.specs.Printed.{joined_by, mark_text};
 ghost use Rattle.lr_report.specs.Texts.{actor_text, cid_text, place_text, spot_text};
 
-use itoa::Buffer;
-use lr_base::{Actor, Cid, NoMemory, Spot, Text};
-
-// Adds the number in decimal behind `out`. Takes no memory but that of `out`.
-#[tactic(auto, using(std::proofs::lemmas::Fmt::decimal_digit))]
-pub fn put_number(number: u64, out: &mut Text) -> Result<(), NoMemory>
-    ensures { OnOk result (out.new ≡ out.old ++ decimal number) }
-{
-    // Most numbers have one digit.
-    if number < 10 {
-        return out.push(b'0' + number as u8);
-    }
-    let mut buffer = Buffer::new();
-    out.extend(buffer.format(number).as_bytes())
-}
+use lr_base::{Actor, Cid, NoMemory, Spot, Text, put_number};
 
 pub fn put_actor(actor: Actor, out: &mut Text) -> Result<(), NoMemory>
     ensures { OnOk result (out.new ≡ out.old ++ actor_text actor) }

@@ -4,9 +4,9 @@ ghost use Rattle.std.specs.Fmt.{decimal};
 ghost use Rattle.lr_report.specs.Printed.{outcome_line, outcome_text, refusal_text, sent_text};
 ghost use Rattle.lr_report.specs.Texts.{actor_text, cid_text, spot_text};
 
-use crate::names::{put_actor, put_cid, put_number, put_spot};
+use crate::names::{put_actor, put_cid, put_spot};
 use crate::state_lines::put_state;
-use lr_base::{Actor, Cid, NoMemory, Outcome, Refusal, Sent, Spot, Text};
+use lr_base::{Actor, Cid, NoMemory, Outcome, Refusal, Sent, Spot, Text, put_number};
 
 // Adds the outcome's line behind `out`.
 pub fn put_line(replicas: u8, outcome: &Outcome, out: &mut Text) -> Result<(), NoMemory>

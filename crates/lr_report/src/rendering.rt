@@ -1,14 +1,14 @@
 //! The lines of a header and of a step.
-ghost use Rattle.std.specs.Prelude.{◌≡◌, ◌++◌, OnOk};
+ghost use Rattle.std.specs.Prelude.{◌≡◌, ◌++◌, OnOk, codes};
+ghost use Rattle.std.specs.Fmt.{decimal};
 ghost use Rattle.std.specs.List.{flat_map};
-ghost use Rattle.lr_report.specs.Printed.{event_line, outcome_line, step_text};
+ghost use Rattle.lr_report.specs.Printed.{lines_of_step, outcome_line, step_text};
 ghost use Rattle.lr_script.specs.Script.{line_of};
 ghost use Rattle.lr_script.specs.Texts.{header_text, service_text, config_text};
 
-use crate::names::put_number;
 use crate::outcome_lines::put_line;
 use lr_base::lr_service::Service;
-use lr_base::{Config, Event, NoMemory, Outcome, Step, Text};
+use lr_base::{Config, NoMemory, Outcome, Step, Text, put_number};
 use lr_script::{Header, Name, print_event};
 
 /// Adds the header's line behind `out`. Where there is no memory, part of it may stand there.
@@ -53,17 +53,41 @@ pub fn render_step<S: Service>(
 ) -> Result<(), NoMemory>
     ensures { OnOk result (out.new ≡ out.old ++ step_text S.meaning config number step.now) }
 {
-    put_event::<S>(number, &step.event, out)?;
-    put_outcomes(config.replicas, step.outcomes.as_slice(), out)
+    put_step_number(number, out)?;
+    print_event::<S>(&step.event, out)?;
+    put_step_end(config.replicas, step.outcomes.as_slice(), out)
 }
 
-fn put_event<S: Service>(number: u64, event: &Event<S::Op>, out: &mut Text) -> Result<(), NoMemory>
-    ensures { OnOk result (out.new ≡ out.old ++ event_line S.meaning number event.now) }
+/// Adds the same behind `out` as `render_step`, from the text of the event, where that is at hand already.
+pub fn render_printed_step(
+    config: Config,
+    number: u64,
+    text: &[u8],
+    outcomes: &[Outcome],
+    out: &mut Text,
+) -> Result<(), NoMemory>
+    ensures { OnOk result (out.new ≡ out.old ++ lines_of_step config number text.now outcomes.now) }
+{
+    put_step_number(number, out)?;
+    out.extend(text)?;
+    put_step_end(config.replicas, outcomes, out)
+}
+
+// Adds what stands before the event's text in its line.
+fn put_step_number(number: u64, out: &mut Text) -> Result<(), NoMemory>
+    ensures { OnOk result (out.new ≡ out.old ++ (decimal number ++ codes ": ")) }
 {
     put_number(number, out)?;
-    out.extend(b": ")?;
-    print_event::<S>(event, out)?;
-    out.extend(b"\n")
+    out.extend(b": ")
+}
+
+// Ends the event's line, and adds those of what it did.
+fn put_step_end(replicas: u8, outcomes: &[Outcome], out: &mut Text) -> Result<(), NoMemory>
+    ensures { OnOk result (out.new ≡ out.old
+        ++ (codes "\n" ++ flat_map (outcome_line replicas) outcomes.now)) }
+{
+    out.extend(b"\n")?;
+    put_outcomes(replicas, outcomes, out)
 }
 
 fn put_outcomes(replicas: u8, outcomes: &[Outcome], out: &mut Text) -> Result<(), NoMemory>

@@ -5,8 +5,8 @@ ghost use Rattle.std.specs.List.{flat_map};
 ghost use Rattle.lr_base.specs.Stamps.{part};
 ghost use Rattle.lr_report.specs.Printed.{clock_fields, call_fields, joined_by, log_fields};
 
-use crate::names::{put_list, put_number};
-use lr_base::{NoMemory, Stamp, StateLine, Text};
+use crate::names::put_list;
+use lr_base::{NoMemory, Stamp, StateLine, Text, put_number};
 
 // Adds the state behind `out`, without what stands around it in its line.
 pub fn put_state(replicas: u8, line: &StateLine, out: &mut Text) -> Result<(), NoMemory>

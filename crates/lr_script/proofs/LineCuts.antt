@@ -1,12 +1,16 @@
 -- The first line of bytes is one, and so is why they begin with none.
-use Rattle.std.proofs.Common.{◌≡◌, ℕ, Bool, true, false, ◌&&◌, ◌||◌, eqb, leb, List, [], ◌∷◌, ◌++◌, refl, sym, ◌∙◌, ap}
-use Rattle.std.specs.List.{list_all, list_any}
+use Rattle.std.proofs.Common.{◌≡◌, ℕ, ◌+◌, ◌-◌, Bool, true, false, not, ◌&&◌, ◌||◌, eqb, leb, List, [], ◌∷◌, ◌++◌, length, get_or, take, drop, Some, None, refl, sym, ◌∙◌, ap, arith}
+use Rattle.std.specs.List.{list_all, list_any, position}
+use Rattle.std.proofs.lemmas.Bool.Decides.{nat_tests}
+use Rattle.std.proofs.lemmas.List.Quantifiers.{position-Some}
 use Rattle.std.proofs.lemmas.List.Folds.{list_any-append}
 use Rattle.lr_base.specs.Meaning.{is_printable}
 use Rattle.lr_script.specs.declared.refusals.Cause.{Cause}
 use Rattle.lr_script.specs.declared.refusals.Cause.TheVariants.{Unended, Byte}
 use Rattle.lr_script.specs.Faults.{HasBadByte, IsNoLine}
 use Rattle.lr_script.specs.CutLaws.{all_head, all_tail, cut_one}
+use Rattle.lr_script.proofs.Printables.{feedless}
+use Rattle.lr_script.proofs.Splits.{around, before_first, none_before}
 
 -- the first elements that fail a test are one
 cut_same : (p : ℕ → Bool) (c d : ℕ) → p c ≡ false → p d ≡ false → (f g r s : List ℕ) → f ++ c ∷ r ≡ g ++ d ∷ s → list_all p f ≡ true → list_all p g ≡ true → c ≡ d
@@ -68,3 +72,26 @@ no_line_one bytes Byte Unended h k = absurd (bad_byte_ended bytes h k)
 no_line_one bytes Unended _ h k = absurd k
 no_line_one bytes Byte _ h k = absurd k
 no_line_one bytes _ _ h k = absurd h
+
+feed_is : (x : ℕ) → eqb x 10 ≡ true → x ≡ 10
+feed_is x h = grind (arith, nat_tests)
+
+-- bytes up to the first line feed are the line that they begin with
+pub line_at : (bytes line later : List ℕ) (end : ℕ) → bytes ≡ line ++ 10 ∷ later → is_printable line ≡ true → position (λ byte. eqb byte 10) bytes ≡ Some end → (take end bytes ≡ line) × (take (length bytes - (end + 1)) (drop (end + 1) bytes) ≡ later)
+line_at bytes line later end e printable h =
+    let found = position-Some (λ byte. eqb byte 10) bytes end 0 h in
+    let feed : get_or bytes end 0 ≡ 10 = feed_is _ found.1 in
+    let rest = take (length bytes - (end + 1)) (drop (end + 1) bytes) in
+    let cut = cut_one (λ byte. not (eqb byte 10)) 10 refl (take end bytes) line rest later
+    (sym (around bytes end found.0 ∙ ap (λ b. take end bytes ++ b ∷ rest) feed) ∙ e)
+    (before_first (λ byte. eqb byte 10) bytes end h) (feedless line printable) in
+    (cut.0, cut.1)
+
+not_cut : (p : ℕ → Bool) (c : ℕ) → p c ≡ false → (f r : List ℕ) → list_all p (f ++ c ∷ r) ≡ true → ⊥
+not_cut p c off [] r h = let yes = all_head (p c) (list_all p r) h in let bad : true ≡ false = sym yes ∙ off in cc
+not_cut p c off (x ∷ f) r h = not_cut p c off f r (all_tail (p x) (list_all p (f ++ c ∷ r)) h)
+
+-- bytes that begin with a line hold a line feed
+pub line_ends : (bytes line later : List ℕ) → bytes ≡ line ++ 10 ∷ later → position (λ byte. eqb byte 10) bytes ≡ None → ⊥
+line_ends bytes line later e h =
+    not_cut (λ byte. not (eqb byte 10)) 10 refl line later (ap (λ (xs : List ℕ). list_all (λ byte. not (eqb byte 10)) xs) (sym e) ∙ none_before (λ byte. eqb byte 10) bytes h)

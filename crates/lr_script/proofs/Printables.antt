@@ -55,3 +55,12 @@ pub unprintable_there : (bytes : List ℕ) (i : ℕ) → position (λ byte. not 
 unprintable_there bytes i h =
     let found = position-Some (λ byte. not (leb 32 byte && leb byte 126)) bytes i 0 h in
     (found.0, bad_alone _ found.1)
+
+feedless_step : (b r : Bool) → b ≡ false → r ≡ true → (not b && r) ≡ true
+feedless_step true r hb hr = cc
+feedless_step false r hb hr = hr
+
+-- and so each of them is another byte
+pub feedless : (bytes : List ℕ) → is_printable bytes ≡ true → list_all (λ byte. not (eqb byte 10)) bytes ≡ true
+feedless [] h = refl
+feedless (x ∷ bytes) h = feedless_step (eqb x 10) (list_all (λ byte. not (eqb byte 10)) bytes) (no_feed x (all_head (leb 32 x && leb x 126) (is_printable bytes) h)) (feedless bytes (all_tail (leb 32 x && leb x 126) (is_printable bytes) h))

@@ -14,7 +14,7 @@ use Rattle.lr_script.specs.declared.heading.Name.TheVariants.{Tally, Mail, Claim
 use Rattle.lr_script.specs.declared.refusals.ScriptFault.{ScriptFault}
 use Rattle.lr_script.specs.declared.refusals.ScriptFault.TheVariants.{Line, NoMemory}
 use Rattle.lr_script.specs.Fields.{IsConfigFields}
-use Rattle.lr_script.specs.Script.{Fits, IsSetUp, IsScript, HasHeader, IsNoScript, line_of, events_text}
+use Rattle.lr_script.specs.Script.{AreEventsOf, Fits, IsSetUp, IsScript, HasHeader, IsNoScript, line_of, events_text}
 use Rattle.lr_script.specs.Texts.{event_text, header_text, config_text, service_text}
 use Rattle.lr_script.specs.Faults.{IsBadLine, IsBadHead, too_long, empty, bad_head, no_header, IsBadAt, IsHeadFault, IsLineFault, IsScriptFault}
 use Rattle.lr_script.proofs.Cuts.{field_one, number_spaceless, config_one, service_spaceless}
@@ -134,6 +134,15 @@ pub script_read : {Value Op : Type 0} (m : Meaning Value Op) (bytes lines : List
 script_read m bytes lines header other (Ok events) set short e fit text has =
     script_header m header other events bytes (record { valid = set; fit = fit; short = short; text = e ∙ ap (λ more. line_of (header_text header) ++ more) text }) has
 script_read m bytes lines header other (Err fault) set short e fit text has = tt
+
+-- and so they are the events of the bytes
+pub events_read : {Value Op : Type 0} (m : Meaning Value Op) (bytes lines : List ℕ) (header : Header) (result : Result (List (Event Op)) ScriptFault) → IsSetUp header.config → length bytes ≤ 8388608 → bytes ≡ line_of (header_text header) ++ lines → IfOk result (All (Fits m header.config)) → IfOk result (λ events. lines ≡ events_text m events) → IfOk result (AreEventsOf m bytes)
+events_read m bytes lines header (Ok events) set short e fit text = record {
+  header = header;
+  script = script_read m bytes lines header header (Ok events) set short e fit text (record { valid = set; rest = lines; text = e });
+  same = λ other. script_read m bytes lines header other (Ok events) set short e fit text;
+}
+events_read m bytes lines header (Err fault) set short e fit text = tt
 
 pub head_fault : {Value Op : Type 0} (m : Meaning Value Op) (bytes : List ℕ) (fault : ScriptFault) → IsHeadFault bytes fault → IsScriptFault m bytes fault
 head_fault m bytes (Line line cause) h = inl h

@@ -13,7 +13,8 @@ all_tail true r h = h
 all_tail false r h = cc
 
 -- what stands before the first element that fails a test is one list, and so is what stands behind it
-pub cut_one : (p : ℕ → Bool) (c : ℕ) → p c ≡ false → (f g r s : List ℕ) → f ++ c ∷ r ≡ g ++ c ∷ s → list_all p f ≡ true → list_all p g ≡ true → (f ≡ g) × (r ≡ s)
+pub cut_one : (p : ℕ → Bool) (c : ℕ) → p c ≡ false → (f g r s : List ℕ)
+    → f ++ c ∷ r ≡ g ++ c ∷ s → list_all p f ≡ true → list_all p g ≡ true → (f ≡ g) × (r ≡ s)
 cut_one p c off [] [] r s e hf hg = (refl, cc)
 cut_one p c off [] (y ∷ g) r s e hf hg =
     let y_is : c ≡ y = cc in

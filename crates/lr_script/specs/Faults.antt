@@ -5,7 +5,8 @@ use Rattle.std.specs.List.{All, list_any}
 use Rattle.lr_base.specs.Meaning.{Meaning, is_printable}
 use Rattle.lr_base.specs.declared.names.Config.{Config}
 use Rattle.lr_script.specs.declared.refusals.Cause.{Cause}
-use Rattle.lr_script.specs.declared.refusals.Cause.TheVariants.{TooLong, Unended, Byte, Header, Event as NoWord, Fields, Number, Range, Op}
+use Rattle.lr_script.specs.declared.refusals.Cause.TheVariants.{TooLong, Unended, Byte, Header, Event as NoWord}
+use Rattle.lr_script.specs.declared.refusals.Cause.TheVariants.{Fields, Number, Range, Op}
 use Rattle.lr_script.specs.declared.refusals.ScriptFault.{ScriptFault}
 use Rattle.lr_script.specs.declared.refusals.ScriptFault.TheVariants.{Line, NoMemory}
 use Rattle.lr_script.specs.declared.event_lines.EventFault.{EventFault}
@@ -113,7 +114,8 @@ IsBadGossip config fields _ = ⊥
 abbrev pub IsBadShow : Config → List ℕ → Cause → Type 0
 IsBadShow config fields Fields = 0 < spaces fields
 IsBadShow config fields Number = (spaces fields ≡ 0) × IsNoNumber fields
-IsBadShow config fields Range = (replica : ℕ) × (fields ≡ decimal replica) × (replica < 2 ^ 64) × (config.replicas ≤ replica)
+IsBadShow config fields Range =
+    (replica : ℕ) × (fields ≡ decimal replica) × (replica < 2 ^ 64) × (config.replicas ≤ replica)
 IsBadShow config fields _ = ⊥
 
 -- what stands behind an event's word is not what the word asks for
@@ -125,24 +127,30 @@ IsBadFields m config Show fields cause = IsBadShow config fields cause
 
 -- a printable line is no event's
 pub data IsBadEvent {Value Op : Type 0} (m : Meaning Value Op) (config : Config) (line : List ℕ) : Cause → Type 0 where
-  no_word : ((word : EventWord) → line ≢ word_text word) → ((word : EventWord) (rest : List ℕ) → line ≢ word_text word ++ 32 ∷ rest) → IsBadEvent m config line NoWord
+  no_word : ((word : EventWord) → line ≢ word_text word)
+      → ((word : EventWord) (rest : List ℕ) → line ≢ word_text word ++ 32 ∷ rest) → IsBadEvent m config line NoWord
   word_alone : (word : EventWord) → line ≡ word_text word → IsBadEvent m config line Fields
-  bad_rest : (word : EventWord) (rest : List ℕ) (cause : Cause) → line ≡ word_text word ++ 32 ∷ rest → IsBadFields m config word rest cause → IsBadEvent m config line cause
+  bad_rest : (word : EventWord) (rest : List ℕ) (cause : Cause) → line ≡ word_text word ++ 32 ∷ rest
+      → IsBadFields m config word rest cause → IsBadEvent m config line cause
 
 -- the bytes don't begin with an event's line
 pub data IsBadLine {Value Op : Type 0} (m : Meaning Value Op) (config : Config) (bytes : List ℕ) : Cause → Type 0 where
   no_line : (cause : Cause) → IsNoLine bytes cause → IsBadLine m config bytes cause
-  no_event : (line later : List ℕ) (cause : Cause) → bytes ≡ line ++ 10 ∷ later → is_printable line ≡ true → IsBadEvent m config line cause → IsBadLine m config bytes cause
+  no_event : (line later : List ℕ) (cause : Cause) → bytes ≡ line ++ 10 ∷ later → is_printable line ≡ true
+      → IsBadEvent m config line cause → IsBadLine m config bytes cause
 
 -- the bytes don't begin with a header's line
 pub data IsBadHead (bytes : List ℕ) : ℕ → Cause → Type 0 where
   too_long : 8388608 < length bytes → IsBadHead bytes 0 TooLong
   empty : bytes ≡ [] → IsBadHead bytes 1 Header
-  bad_head : (cause : Cause) → length bytes ≤ 8388608 → 1 ≤ length bytes → IsNoLine bytes cause → IsBadHead bytes 1 cause
-  no_header : (line later : List ℕ) → length bytes ≤ 8388608 → bytes ≡ line ++ 10 ∷ later → is_printable line ≡ true → ((header : Head) → IsSetUp header.config → line ≢ header_text header) → IsBadHead bytes 1 Header
+  bad_head : (cause : Cause) → length bytes ≤ 8388608 → 1 ≤ length bytes
+      → IsNoLine bytes cause → IsBadHead bytes 1 cause
+  no_header : (line later : List ℕ) → length bytes ≤ 8388608 → bytes ≡ line ++ 10 ∷ later → is_printable line ≡ true
+      → ((header : Head) → IsSetUp header.config → line ≢ header_text header) → IsBadHead bytes 1 Header
 
 -- the lines before this one are events', and here the next event's would begin
-pub record IsBadAmong {Value Op : Type 0} (m : Meaning Value Op) (config : Config) (lines : List ℕ) (line : ℕ) (cause : Cause) : Type 0 where
+pub record IsBadAmong {Value Op : Type 0}
+    (m : Meaning Value Op) (config : Config) (lines : List ℕ) (line : ℕ) (cause : Cause) : Type 0 where
   pub events : List (Event Op)
   pub rest : List ℕ
   pub text : lines ≡ events_text m events ++ rest
@@ -185,8 +193,10 @@ abbrev pub IsScriptFault : {Value Op : Type 0} → Meaning Value Op → List ℕ
 IsScriptFault m bytes (Line line cause) = IsBadHead bytes line cause ⊎ IsBadAt m bytes line cause
 IsScriptFault m bytes NoMemory = Unit {0}
 
--- the bytes mean no header and no events: this is the first bad line, with the first cause at it; too many bytes are refused for just that
-pub record IsRefusal {Value Op : Type 0} (m : Meaning Value Op) (bytes : List ℕ) (line : ℕ) (cause : Cause) : Type 0 where
+-- the bytes mean no header and no events: this is the first bad line, with the first cause at it; too many bytes are
+-- refused for just that
+pub record IsRefusal {Value Op : Type 0}
+    (m : Meaning Value Op) (bytes : List ℕ) (line : ℕ) (cause : Cause) : Type 0 where
   pub meaningless : IsNoScript m bytes
   pub fault : IsScriptFault m bytes (Line line cause)
   pub long : (cause ≡ TooLong) ↔ (8388608 < length bytes)

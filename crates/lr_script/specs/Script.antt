@@ -56,14 +56,23 @@ pub record HasHeader (header : Header) (bytes : List ℕ) : Type 0 where
 
 -- a header that is read of the bytes names the service of this number
 abbrev pub IsNamed : ℕ → List ℕ → Type 0
-IsNamed number bytes = (header : Header) → HasHeader header bytes → length bytes ≤ 8388608 → service_number header.service ≡ number
+IsNamed number bytes =
+    (header : Header) → HasHeader header bytes → length bytes ≤ 8388608 → service_number header.service ≡ number
 
 -- the bytes are few enough, and the text of this header and these events
-pub record IsScript {Value Op : Type 0} (m : Meaning Value Op) (header : Header) (events : List (Event Op)) (bytes : List ℕ) : Type 0 where
+pub record IsScript {Value Op : Type 0}
+    (m : Meaning Value Op) (header : Header) (events : List (Event Op)) (bytes : List ℕ) : Type 0 where
   pub valid : IsSetUp header.config
   pub fit : All (Fits m header.config) events
   pub short : length bytes ≤ 8388608
   pub text : bytes ≡ script_text m header events
+
+-- there is a header with which the bytes are the script of these events, and they are so with each that they begin with
+pub record AreEventsOf {Value Op : Type 0}
+    (m : Meaning Value Op) (bytes : List ℕ) (events : List (Event Op)) : Type 0 where
+  pub header : Header
+  pub script : IsScript m header events bytes
+  pub same : (other : Header) → HasHeader other bytes → IsScript m other events bytes
 
 -- the bytes are no header's and no events' text
 abbrev pub IsNoScript : {Value Op : Type 0} → Meaning Value Op → List ℕ → Type 0

@@ -23,7 +23,8 @@ service_number Claims = 3
 
 -- the counts of replicas and clients, and how long a message may be under way
 abbrev pub config_text : Config → List ℕ
-config_text config = decimal config.replicas ++ (codes " " ++ (decimal config.clients ++ (codes " " ++ decimal config.delta)))
+config_text config =
+    decimal config.replicas ++ (codes " " ++ (decimal config.clients ++ (codes " " ++ decimal config.delta)))
 
 -- a script's first line: its service and what a run is set up with
 abbrev pub header_text : Header → List ℕ
@@ -31,7 +32,9 @@ header_text header = codes "lazyrep 1 " ++ (service_text header.service ++ (code
 
 -- an event's line: its word, then its fields with one space before each
 abbrev pub event_text : {Value Op : Type 0} → Meaning Value Op → Event Op → List ℕ
-event_text m (Call client replica reading op) = codes "call " ++ (decimal client ++ (codes " " ++ (decimal replica ++ (codes " " ++ (decimal reading ++ (codes " " ++ m.text op))))))
+event_text m (Call client replica reading op) =
+    codes "call " ++ (decimal client ++ (codes " " ++ (decimal replica
+    ++ (codes " " ++ (decimal reading ++ (codes " " ++ m.text op))))))
 event_text m (Deliver message) = codes "deliver " ++ decimal message
 event_text m (Gossip from to) = codes "gossip " ++ (decimal from ++ (codes " " ++ decimal to))
 event_text m (Show replica) = codes "show " ++ decimal replica

@@ -1,5 +1,5 @@
 //! The lines of events, read and printed.
-ghost use Rattle.std.specs.Prelude.{◌≡◌, ◌≢◌, true, ◌++◌, ◌<◌, codes, IfOk, IfErr, OnOk, IfSome, IsNone, string_bytes};
+ghost use Rattle.std.specs.Prelude.{◌≡◌, ◌≢◌, true, ◌++◌, ◌<◌, codes, IfOk, IfErr, OnOk, IfSome, IsNone};
 ghost use Rattle.std.specs.Fmt.{decimal};
 ghost use Rattle.lr_base.specs.declared.names.Config.{Config};
 ghost use Rattle.lr_script.specs.Fields.{spaces, IsCallFields, IsPair};
@@ -11,8 +11,8 @@ ghost use Rattle.lr_script.specs.Texts.{event_text};
 use crate::Cause;
 use crate::fields::{EventWord, is_one_field, split_field, word_of};
 use lr_base::lr_service::{Kind, OpFault, Service};
-use lr_base::{Config, Event, NoMemory, Text, read_number};
-use std::alloc::{AllocError, Global};
+use lr_base::{Config, Event, NoMemory, Text, put_number, read_number};
+use std::alloc::Global;
 
 // Why a line was not read as an event.
 #[derive(Drop)]
@@ -214,35 +214,36 @@ pub fn print_event<S: Service>(event: &Event<S::Op>, out: &mut Text) -> Result<(
             reading,
             op,
         } => {
-            let client = *client;
-            let replica = *replica;
-            let reading = *reading;
-            let head = call_head(out.allocator(), client, replica, reading)?;
-            out.extend(head.as_bytes())?;
+            put_call_head(*client, *replica, *reading, out)?;
             S::print_op(op, out)
         }
         Event::Deliver { message } => {
-            let message = *message;
-            let line = format!(in out.allocator(); "deliver {message}")?;
-            out.extend(line.as_bytes())
+            out.extend(b"deliver ")?;
+            put_number(*message, out)
         }
         Event::Gossip { from, to } => {
-            let from = *from;
-            let to = *to;
-            let line = format!(in out.allocator(); "gossip {from} {to}")?;
-            out.extend(line.as_bytes())
+            out.extend(b"gossip ")?;
+            put_number(*from as u64, out)?;
+            out.extend(b" ")?;
+            put_number(*to as u64, out)
         }
         Event::Show { replica } => {
-            let replica = *replica;
-            let line = format!(in out.allocator(); "show {replica}")?;
-            out.extend(line.as_bytes())
+            out.extend(b"show ")?;
+            put_number(*replica as u64, out)
         }
     }
 }
 
-// A call's line up to its operation.
-fn call_head(alloc: Global, client: u32, replica: u8, reading: u64) -> Result<String, AllocError>
-    ensures { IfOk result (λ text. string_bytes text ≡ codes "call " ++ (decimal client ++ (codes " " ++ (decimal replica ++ (codes " " ++ (decimal reading ++ codes " ")))))) }
+// A call's line up to the space before its operation.
+fn put_call_head(client: u32, replica: u8, reading: u64, out: &mut Text) -> Result<(), NoMemory>
+    ensures { OnOk result (out.new ≡ out.old ++ (codes "call " ++ (decimal client
+        ++ (codes " " ++ (decimal replica ++ (codes " " ++ (decimal reading ++ codes " "))))))) }
 {
-    format!(in alloc; "call {client} {replica} {reading} ")
+    out.extend(b"call ")?;
+    put_number(client as u64, out)?;
+    out.extend(b" ")?;
+    put_number(replica as u64, out)?;
+    out.extend(b" ")?;
+    put_number(reading, out)?;
+    out.extend(b" ")
 }

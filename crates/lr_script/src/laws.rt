@@ -13,7 +13,8 @@ use lr_base::lr_service::Service;
 
 /// Bytes with a bad line mean nothing, and too many bytes are refused for just that.
 pub fn what_is_refused_means_nothing<S: Service>()
-    ensures { (bytes : List ℕ) (line : ℕ) (cause : Cause) → IsScriptFault S.meaning bytes (Line line cause) → IsRefusal S.meaning bytes line cause }
+    ensures { (bytes : List ℕ) (line : ℕ) (cause : Cause)
+        → IsScriptFault S.meaning bytes (Line line cause) → IsRefusal S.meaning bytes line cause }
 {}
 
 /// Bytes are the text of at most one header and list of events, and have at most one first bad line, with one first

@@ -4,8 +4,9 @@ ghost use Rattle.std.specs.List.{All};
 ghost use Rattle.lr_base.specs.declared.events.Event.{Event};
 ghost use Rattle.lr_script.specs.declared.heading.Header.{Header};
 ghost use Rattle.lr_script.specs.declared.refusals.Cause.{Cause};
-ghost use Rattle.lr_script.specs.Faults.{IsBadHead, IsFaultAt, IsBadLine, IsHeadFault, IsLineFault, IsRefused, IsScriptFault};
-ghost use Rattle.lr_script.specs.Script.{Fits, IsNamed, IsSetUp, IsScript, HasHeader, line_of, events_text};
+ghost use Rattle.lr_script.specs.Faults.{IsBadHead, IsFaultAt, IsBadLine, IsHeadFault, IsLineFault};
+ghost use Rattle.lr_script.specs.Faults.{IsRefused, IsScriptFault};
+ghost use Rattle.lr_script.specs.Script.{AreEventsOf, Fits, IsNamed, IsSetUp, IsScript, HasHeader, line_of, events_text};
 ghost use Rattle.lr_script.specs.Texts.{event_text, header_text};
 
 use crate::event_lines::{EventFault, read_event};
@@ -46,17 +47,15 @@ pub fn is_for<S: Service>(bytes: &[u8]) -> bool
     }
 }
 
-/// The events of a script, in the order of their lines. A header that is read of the bytes has to name the service `S`, which `is_for` tests.
+/// The events of a script, in the order of their lines. A header that is read of the bytes has to name the service
+/// `S`, which `is_for` tests.
 pub fn read_script<S: Service>(
     alloc: Global,
     bytes: &[u8],
 ) -> Result<Rows<Event<S::Op>>, ScriptFault>
     requires { IsNamed S.NUMBER bytes.now }
-    ensures ok { IfOk result (λ events. (header : Header) × IsScript S.meaning header events bytes.now) }
-    ensures long { (result ≡ Err (ScriptFault.Line 0 Cause.TooLong)) ↔ (8388608 < length bytes.now) }
-    ensures same { (header : Header) → HasHeader header bytes.now → IfOk result (λ events. IsScript S.meaning header events bytes.now) }
-    ensures err { IfErr result (IsScriptFault S.meaning bytes.now) }
-    ensures refused { IfErr result (IsRefused S.meaning bytes.now) }
+    ensures ok { IfOk result (AreEventsOf S.meaning bytes.now) }
+    ensures err { IfErr result (IsRefused S.meaning bytes.now) }
 
     // Where there is memory, the answer is the one that the bytes allow. A bad header is told without any.
     ensures head { (line : ℕ) (cause : Cause)

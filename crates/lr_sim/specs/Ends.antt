@@ -1,5 +1,5 @@
 -- How a simulation ends.
-use Rattle.std.specs.Prelude.{◌≡◌, ◌<◌, ◌≤◌, ◌⊎◌, ◌↔◌, ℕ, List, [], Option, length}
+use Rattle.std.specs.Prelude.{◌≡◌, ◌≢◌, ◌<◌, ◌≤◌, ◌⊎◌, ◌↔◌, ℕ, List, [], Option, length}
 use Rattle.std.specs.Io.KnownBytes.{Appends, Consumes, IsAtEnd}
 use Rattle.lr_base.specs.Meaning.{Meaning}
 use Rattle.lr_base.specs.declared.events.Event.{Event}
@@ -32,19 +32,22 @@ abbrev pub IsNoScriptOf : {Value Op : Type 0} → Meaning Value Op → Header �
 IsNoScriptOf {Value} {Op} m header bytes = (events : List (Event Op)) → ¬ (IsScript m header events bytes)
 
 -- the bytes are the text of this header and of events, and the legal history of these was written, whole
-pub record HasRunOf {Value Op : Type 0} (m : Meaning Value Op) (header : Header) (bytes : List ℕ) (before now : Option (List ℕ)) : Type 0 where
+pub record HasRunOf {Value Op : Type 0}
+    (m : Meaning Value Op) (header : Header) (bytes : List ℕ) (before now : Option (List ℕ)) : Type 0 where
   pub events : List (Event Op)
   pub script : IsScript m header events bytes
   pub printed_all : HasPrinted m header events before now []
 
 -- the same, and the front of the legal history of some first of the events was written
-pub record HasRunPartOf {Value Op : Type 0} (m : Meaning Value Op) (header : Header) (bytes : List ℕ) (before now : Option (List ℕ)) : Type 0 where
+pub record HasRunPartOf {Value Op : Type 0}
+    (m : Meaning Value Op) (header : Header) (bytes : List ℕ) (before now : Option (List ℕ)) : Type 0 where
   pub events : List (Event Op)
   pub script : IsScript m header events bytes
   pub printed_part : HasBegun m header events before now
 
 -- what an end says of the bytes that begin with this header's line, where this is what its service means
-abbrev pub MeansOf : {Value Op : Type 0} → Meaning Value Op → Header → List ℕ → Option (List ℕ) → Option (List ℕ) → SimEnd → Type 0
+abbrev pub MeansOf : {Value Op : Type 0} → Meaning Value Op → Header → List ℕ
+    → Option (List ℕ) → Option (List ℕ) → SimEnd → Type 0
 MeansOf m header bytes before now Done = HasRunOf m header bytes before now
 MeansOf m header bytes before now (Script line cause) = IsRefusal m bytes line cause
 MeansOf m header bytes before now ReadFault = ⊥
@@ -67,7 +70,8 @@ pub record IsBadBehind (bytes : List ℕ) (line : ℕ) (cause : Cause) : Type 0 
   pub has : HasHeader header bytes
   pub bad : HoldsOf (λ Value Op m. IsBadAt m bytes line cause) header.service
 
--- the bytes mean no header and events of the service that it names: this is the first bad line, with the first cause at it; too many bytes are refused for just that
+-- the bytes mean no header and events of the service that it names: this is the first bad line, with the first cause
+-- at it; too many bytes are refused for just that
 pub record IsRefusedFor (bytes : List ℕ) (line : ℕ) (cause : Cause) : Type 0 where
   pub meaningless : (header : Header) → HoldsOf (λ Value Op m. IsNoScriptOf m header bytes) header.service
   pub fault : IsBadHead bytes line cause ⊎ IsBadBehind bytes line cause
@@ -81,14 +85,26 @@ Means bytes before now ReadFault = ⊥
 Means bytes before now WriteFault = HasRunPart bytes before now
 Means bytes before now NoMemory = Appends before now [] ⊎ HasRunPart bytes before now
 
--- bytes were read, and the end says of them what it means; a failed read says nothing, and want of memory may come before
+-- bytes were read, and the end says of them what it means; a failed read says nothing, and want of memory may come
+-- before
 abbrev pub SimMeans : Option (List ℕ) → Option (List ℕ) → Option (List ℕ) → Option (List ℕ) → SimEnd → Type 0
 SimMeans left_before left_now before now ReadFault = Unit {0}
-SimMeans left_before left_now before now NoMemory = Appends before now [] ⊎ ((bytes : List ℕ) × HasRead left_before left_now bytes × HasRunPart bytes before now)
-SimMeans left_before left_now before now end = (bytes : List ℕ) × HasRead left_before left_now bytes × Means bytes before now end
+SimMeans left_before left_now before now NoMemory =
+    Appends before now [] ⊎ ((bytes : List ℕ) × HasRead left_before left_now bytes × HasRunPart bytes before now)
+SimMeans left_before left_now before now end =
+    (bytes : List ℕ) × HasRead left_before left_now bytes × Means bytes before now end
+
+-- what the end of a run whose bytes are at hand says of the count of the sink's faults, and of the sink
+pub record RunEnded {Out : Type 0}
+    (write_before write_now : ℕ) (out_before out_now : Out) (end : SimEnd) : Type 0 where
+  pub write_later : write_before ≤ write_now
+  pub no_read : end ≢ ReadFault
+  pub script_unwritten : (line : ℕ) (cause : Cause) → end ≡ Script line cause → out_now ≡ out_before
+  pub write_fault : end ≡ WriteFault → Rose write_before write_now
 
 -- what each end says of the counts of faults of source and sink, and of the sink
-pub record SimEnded {Out : Type 0} (read_before read_now write_before write_now : ℕ) (out_before out_now : Out) (end : SimEnd) : Type 0 where
+pub record SimEnded {Out : Type 0}
+    (read_before read_now write_before write_now : ℕ) (out_before out_now : Out) (end : SimEnd) : Type 0 where
   pub read_later : read_before ≤ read_now
   pub write_later : write_before ≤ write_now
   pub read_fault : end ≡ ReadFault → Rose read_before read_now
@@ -100,7 +116,10 @@ pub record SimEnded {Out : Type 0} (read_before read_now write_before write_now 
 abbrev pub IsDoneFor : {Value Op : Type 0} → Meaning Value Op → Header → List ℕ → SimEnd → Type 0
 IsDoneFor {Value} {Op} m header bytes end = (events : List (Event Op)) → IsScript m header events bytes → end ≡ Done
 
--- where neither count of faults rose, bytes were read, and if they mean a header and events of its service the simulation is done; or there was no memory
+-- where neither count of faults rose, bytes were read, and if they mean a header and events of its service the
+-- simulation is done; or there was no memory
 pub data IsComplete (left_before left_now : Option (List ℕ)) (end : SimEnd) : Type 0 where
   no_memory : end ≡ NoMemory → IsComplete left_before left_now end
-  was_read : (bytes : List ℕ) → HasRead left_before left_now bytes → ((header : Header) → HoldsOf (λ Value Op m. IsDoneFor m header bytes end) header.service) → IsComplete left_before left_now end
+  was_read : (bytes : List ℕ) → HasRead left_before left_now bytes
+      → ((header : Header) → HoldsOf (λ Value Op m. IsDoneFor m header bytes end) header.service)
+      → IsComplete left_before left_now end

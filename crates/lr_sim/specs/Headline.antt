@@ -8,8 +8,10 @@ use Rattle.lr_graph.specs.Legal.{IsLegal}
 use Rattle.lr_report.specs.Printed.{printed}
 use Rattle.lr_script.specs.declared.heading.Header.{Header}
 
--- there is a legal history of just these events; what was written is the front of its printed form, and this is the rest of it
-pub record HasPrinted {Value Op : Type 0} (m : Meaning Value Op) (header : Header) (events : List (Event Op)) (before now : Option (List ℕ)) (rest : List ℕ) : Type 0 where
+-- there is a legal history of just these events; what was written is the front of its printed form, and this is the
+-- rest of it
+pub record HasPrinted {Value Op : Type 0} (m : Meaning Value Op) (header : Header) (events : List (Event Op))
+    (before now : Option (List ℕ)) (rest : List ℕ) : Type 0 where
   pub history : List (Step Op)
   pub legal : IsLegal m header.config history
   pub events_are : map (λ step. step.event) history ≡ events
@@ -18,7 +20,8 @@ pub record HasPrinted {Value Op : Type 0} (m : Meaning Value Op) (header : Heade
   pub text : printed m header history ≡ written ++ rest
 
 -- the same of some first events
-pub record HasBegun {Value Op : Type 0} (m : Meaning Value Op) (header : Header) (events : List (Event Op)) (before now : Option (List ℕ)) : Type 0 where
+pub record HasBegun {Value Op : Type 0} (m : Meaning Value Op) (header : Header) (events : List (Event Op))
+    (before now : Option (List ℕ)) : Type 0 where
   pub count : ℕ
   pub rest : List ℕ
   pub printed_part : HasPrinted m header (take count events) before now rest

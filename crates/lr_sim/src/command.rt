@@ -1,24 +1,29 @@
 //! The command `sim`: reads a script to its end, runs it, and writes its history.
-ghost use Rattle.std.specs.Prelude.{ℕ, List, [], ◌∷◌, ◌≡◌, ◌+◌, ◌≤◌, ◌≢◌, ◌++◌, OnOk, OnErr, length};
-ghost use Rattle.std.specs.List.{All};
-ghost use Rattle.lr_base.specs.declared.events.Step.{Step};
+ghost use Rattle.std.specs.Prelude.{ℕ, List, [], ◌≡◌, ◌≤◌, ◌++◌, OnOk, OnErr};
+ghost use Rattle.lr_base.specs.Events.{IsEventOf};
+ghost use Rattle.lr_graph.specs.Made.{made_step};
+ghost use Rattle.lr_graph.specs.Runs.{stepped};
 ghost use Rattle.lr_outside.specs.Faults.{Rose};
 ghost use Rattle.lr_report.specs.Printed.{step_text};
-ghost use Rattle.lr_script.specs.Script.{Fits, HasHeader, IsNamed, IsSetUp};
-ghost use Rattle.lr_script.specs.declared.refusals.Cause.{Cause};
-ghost use Rattle.lr_sim.specs.Ends.{IsComplete, IsFault, Means, MeansOf, SimEnded, SimMeans};
+ghost use Rattle.lr_script.specs.Script.{HasHeader, IsNamed, IsScript};
+ghost use Rattle.lr_script.specs.Texts.{event_text};
+ghost use Rattle.lr_sim.specs.Ends.{IsComplete, IsFault, Means, MeansOf, RunEnded, SimEnded, SimMeans};
 ghost use Rattle.lr_sim.specs.Headline.{HasBegun, HasPrinted};
 ghost use Rattle.lr_sim.specs.Moved.{HasMoved};
+ghost use Rattle.lr_world.specs.Worlds.{run_of, setup_of};
 
 use lr_base::lr_service::Service;
 use lr_base::{Event, NoMemory, Text};
+use lr_graph::{a_made_history_goes_on, what_is_made_is_legal};
 use lr_outside::{Failed, ReadEnd, Sink, Source, read_up_to, write_whole};
-use lr_report::{render_header, render_step};
+use lr_report::{render_header, render_printed_step};
 use lr_script::{
-    Cause, Header, Name, ScriptFault, read_header, read_script, what_is_refused_means_nothing,
+    Cause, Header, Name, ScriptFault, read_header, read_script, split_event_line,
+    what_is_refused_means_nothing,
 };
-use lr_world::World;
+use lr_world::Run;
 use std::alloc::Global;
+use std::mem;
 use svc_claims::Claims;
 use svc_mail::Mail;
 use svc_tally::Tally;
@@ -46,8 +51,11 @@ pub enum SimEnd {
 /// Reads a script to its end, runs it, and writes its history.
 pub fn sim_command<R: Source, W: Sink>(alloc: Global, input: &mut R, out: &mut W) -> SimEnd
     ensures meant { SimMeans (R.left input.old) (R.left input.new) (W.held out.old) (W.held out.new) result }
-    ensures ended { SimEnded (R.faults input.old) (R.faults input.new) (W.faults out.old) (W.faults out.new) out.old out.new result }
-    ensures complete { ¬ (Rose (R.faults input.old) (R.faults input.new)) → ¬ (Rose (W.faults out.old) (W.faults out.new)) → IsComplete (R.left input.old) (R.left input.new) result }
+    ensures ended { SimEnded (R.faults input.old) (R.faults input.new)
+        (W.faults out.old) (W.faults out.new) out.old out.new result }
+    ensures complete { ¬ (Rose (R.faults input.old) (R.faults input.new))
+        → ¬ (Rose (W.faults out.old) (W.faults out.new))
+        → IsComplete (R.left input.old) (R.left input.new) result }
 {
     let bytes = match read_up_to(alloc, input, MOST_INPUT) {
         Ok(bytes) => bytes,
@@ -60,10 +68,7 @@ pub fn sim_command<R: Source, W: Sink>(alloc: Global, input: &mut R, out: &mut W
 // Runs the script that the bytes are.
 fn simulate<W: Sink>(alloc: Global, bytes: &[u8], out: &mut W) -> SimEnd
     ensures meant { Means bytes.now (W.held out.old) (W.held out.new) result }
-    ensures read { result ≢ SimEnd.ReadFault }
-    ensures script { (line : ℕ) (cause : Cause) → result ≡ SimEnd.Script line cause → out.new ≡ out.old }
-    ensures write { result ≡ SimEnd.WriteFault → Rose (W.faults out.old) (W.faults out.new) }
-    ensures later { W.faults out.old ≤ W.faults out.new }
+    ensures ended { RunEnded (W.faults out.old) (W.faults out.new) out.old out.new result }
 {
     what_is_refused_means_nothing::<Tally>();
     what_is_refused_means_nothing::<Mail>();
@@ -97,14 +102,11 @@ fn simulate_script<S: Service, W: Sink>(
     requires header { HasHeader header.now bytes.now }
     requires named { IsNamed S.NUMBER bytes.now }
     ensures meant { MeansOf S.meaning header.now bytes.now (W.held out.old) (W.held out.new) result }
-    ensures read { result ≢ SimEnd.ReadFault }
-    ensures script { (line : ℕ) (cause : Cause) → result ≡ SimEnd.Script line cause → out.new ≡ out.old }
-    ensures write { result ≡ SimEnd.WriteFault → Rose (W.faults out.old) (W.faults out.new) }
-    ensures later { W.faults out.old ≤ W.faults out.new }
+    ensures ended { RunEnded (W.faults out.old) (W.faults out.new) out.old out.new result }
 {
     what_is_refused_means_nothing::<S>();
     match read_script::<S>(alloc, bytes) {
-        Ok(events) => match write_history::<S, W>(alloc, header, events.as_slice(), out) {
+        Ok(events) => match write_history::<S, W>(alloc, header, bytes, events.as_slice(), out) {
             Ok(()) => SimEnd::Ok,
             Err(RunFault::Write) => SimEnd::WriteFault,
             Err(RunFault::NoMemory) => SimEnd::NoMemory,
@@ -142,41 +144,58 @@ impl From<Failed> for RunFault {
     }
 }
 
-// Runs the events one after another, and writes the history in pieces of some kilobytes.
+// Runs the events of a script's bytes one after another, and writes the history in pieces of some kilobytes. What an
+// event was written as is copied from the bytes.
 fn write_history<S: Service, W: Sink>(
     alloc: Global,
     header: &Header,
+    bytes: &[u8],
     events: &[Event<S::Op>],
     out: &mut W,
 ) -> Result<(), RunFault>
-    requires set_up { IsSetUp header.now.config }
-    requires fit { All (Fits S.meaning header.now.config) events.now }
+    requires { IsScript S.meaning header.now events.now bytes.now }
     ensures whole { OnOk result (HasPrinted S.meaning header.now events.now (W.held out.old) (W.held out.new) []) }
     ensures part { HasBegun S.meaning header.now events.now (W.held out.old) (W.held out.new) }
     ensures write { result ≡ Err RunFault.Write → Rose (W.faults out.old) (W.faults out.new) }
     ensures later { W.faults out.old ≤ W.faults out.new }
 {
-    let mut world = World::<S>::new(alloc, header.config)?;
+    a_made_history_goes_on::<S>();
+    what_is_made_is_legal::<S>();
+    let mut run = Run::<S>::new(alloc, header.config)?;
     let mut text = Text::new(alloc);
     render_header(header, &mut text)?;
+    let mut lines = &bytes[text.len()..];
+    let mut number = 0;
     for event in events {
-        let _lines = world.step(event)?;
-        render_last(&world, &mut text)?;
+        let (line, later) = split_event_line::<S>(lines);
+        number += 1;
+        make_step(&mut run, number, event, line, &mut text)?;
         write_full(&mut text, out)?;
+        lines = later;
     }
     write_whole(out, text.as_slice())?;
+    // The process ends soon, so what the run has needn't be given back.
+    mem::forget(run);
     Ok(())
 }
 
-// Adds the text of the world's last step.
-fn render_last<S: Service>(world: &World<S>, text: &mut Text) -> Result<(), NoMemory>
-    ensures { (steps : List (Step S.Op)) (step : Step S.Op) → world.now.steps ≡ steps ++ step ∷ [] → OnOk result (text.new ≡ text.old ++ step_text S.meaning world.now.config (1 + length steps) step) }
+// Makes the event of this number, and adds the lines of its step. Its own line has been printed.
+fn make_step<S: Service>(
+    run: &mut Run<S>,
+    number: u64,
+    event: &Event<S::Op>,
+    line: &[u8],
+    text: &mut Text,
+) -> Result<(), NoMemory>
+    requires fits { IsEventOf S.meaning (setup_of run.old) event.now }
+    requires line { line.now ≡ event_text S.meaning event.now }
+    ensures setup { setup_of run.new ≡ setup_of run.old }
+    ensures made { OnOk result (run_of run.new ≡ (stepped S.meaning (run_of run.old) event.now).run) }
+    ensures text { OnOk result (text.new ≡ text.old ++ step_text S.meaning (setup_of run.old) number
+        (made_step S.meaning (run_of run.old) event.now)) }
 {
-    let steps = world.history().as_slice();
-    match steps.last() {
-        Some(step) => render_step::<S>(world.config(), steps.len() as u64, step, text),
-        None => Ok(()),
-    }
+    run.step(event)?;
+    render_printed_step(run.config(), number, line, run.lines(), text)
 }
 
 // Writes the gathered text, if it is enough for a piece.

@@ -13,7 +13,7 @@ pub use laws::tables_are_exact;
 pub use lists::WordList;
 pub use stored::Stored;
 pub use table::Table;
-pub use texts::{behind, put_decimal, put_two_words, put_word, read_two_words};
+pub use texts::{behind, put_two_words, put_word, read_two_words};
 pub use word::Word;
 
 #[cfg(test)]

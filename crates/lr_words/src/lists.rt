@@ -10,9 +10,8 @@ ghost use Rattle.lr_words.specs.TableLaws.{words-exact};
 ghost use Rattle.lr_words.specs.Lasts.{ReadsRows, last_of};
 
 use crate::stored::{Stored, wrong};
-use crate::texts::put_decimal;
 use crate::word::Word;
-use lr_base::{BadWhat, FieldFault, NoMemory, Text, count_field, put_count_field};
+use lr_base::{BadWhat, FieldFault, NoMemory, Text, count_field, put_count_field, put_number};
 use std::alloc::{AllocError, Global};
 use std::marker::Model;
 
@@ -68,7 +67,7 @@ impl WordList {
         ensures ok { OnOk result (out.new ≡ out.old ++ words_text self.now) }
         ensures real { OnOk result (list_all is_word self.now ≡ true) }
     {
-        put_decimal(self.words.len() as u64, out)?;
+        put_number(self.words.len() as u64, out)?;
         put_spaced(&self.words, out)
     }
 }

@@ -11,9 +11,8 @@ ghost use Rattle.lr_words.specs.Formats.{with_word, words_of, words_text};
 use crate::entries;
 use crate::lists::WordList;
 use crate::stored::Stored;
-use crate::texts::put_decimal;
 use crate::word::Word;
-use lr_base::{FieldFault, NoMemory, Text, count_field, put_count_field};
+use lr_base::{FieldFault, NoMemory, Text, count_field, put_count_field, put_number};
 use std::alloc::Global;
 use std::collections::BTreeMap;
 use std::marker::Model;
@@ -147,7 +146,7 @@ impl Table<WordList> {
     {
         match self.get(name) {
             Some(words) => words.put_text(out),
-            None => put_decimal(0, out),
+            None => put_number(0, out),
         }
     }
 }

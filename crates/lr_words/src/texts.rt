@@ -1,11 +1,9 @@
 //! What the texts of operations are made of.
 ghost use Rattle.std.specs.Prelude.{◌≡◌, ◌≢◌, true, ◌&&◌, List, ℕ, ◌++◌, IfSome, IsNone, OnOk, codes};
-ghost use Rattle.std.specs.Fmt.{decimal};
 ghost use Rattle.std.specs.Option.{MatchOption};
 ghost use Rattle.lr_words.specs.Word.{is_word};
 
 use crate::word::Word;
-use itoa::Buffer;
 use lr_base::{NoMemory, Text};
 
 /// What stands behind the verb that the text begins with.
@@ -44,12 +42,4 @@ pub fn put_word(word: &Word, out: &mut Text) -> Result<(), NoMemory>
     ensures real { OnOk result (is_word word.now ≡ true) }
 {
     out.extend(word.as_slice())
-}
-
-/// Adds the number in decimal behind `out`.
-pub fn put_decimal(number: u64, out: &mut Text) -> Result<(), NoMemory>
-    ensures { OnOk result (out.new ≡ out.old ++ decimal number) }
-{
-    let mut buffer = Buffer::new();
-    out.extend(buffer.format(number).as_bytes())
 }

@@ -10,9 +10,9 @@ use crate::op::MailOp;
 use crate::texts::{op_of, put_op};
 use lr_base::lr_service::{Kind, OpFault, Service};
 use lr_base::{
-    FieldFault, GetFault, NoMemory, Rows, Text, decoded, number_field, put_number_field,
+    FieldFault, GetFault, NoMemory, Rows, Text, decoded, number_field, put_number, put_number_field,
 };
-use lr_words::{Table, Word, WordList, put_decimal};
+use lr_words::{Table, Word, WordList};
 use std::alloc::Global;
 use std::marker::Model;
 
@@ -72,7 +72,7 @@ impl Mail {
         ensures { OnOk result (out.new ≡ out.old ++ number_text (map.get self.now.users user.now)) }
     {
         match self.users.get(user) {
-            Some(number) => put_decimal(*number, out),
+            Some(number) => put_number(*number, out),
             None => out.extend(b"-"),
         }
     }

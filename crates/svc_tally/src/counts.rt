@@ -7,8 +7,8 @@ ghost use Rattle.svc_tally.specs.Tally.{count_of, tally_apply, tally_format};
 use crate::op::TallyOp;
 use crate::texts::{op_of, put_op};
 use lr_base::lr_service::{Kind, OpFault, Service};
-use lr_base::{FieldFault, GetFault, NoMemory, Rows, Text, decoded};
-use lr_words::{Table, Word, put_decimal};
+use lr_base::{FieldFault, GetFault, NoMemory, Rows, Text, decoded, put_number};
+use lr_words::{Table, Word};
 use std::alloc::Global;
 use std::marker::Model;
 
@@ -94,7 +94,7 @@ impl Service for Tally {
     fn read(&self, op: &TallyOp) -> Result<Text, NoMemory> {
         let mut answer = Rows::new(self.alloc);
         if let TallyOp::Read { name } = op {
-            put_decimal(self.count(name), &mut answer)?;
+            put_number(self.count(name), &mut answer)?;
         }
         Ok(answer)
     }

@@ -7,8 +7,8 @@ ghost use Rattle.svc_tally.specs.Tally.{tally_kind, tally_is_op, tally_text};
 
 use crate::op::TallyOp;
 use lr_base::lr_service::Operation;
-use lr_base::{NoMemory, Text, read_number};
-use lr_words::{Word, put_decimal, put_word};
+use lr_base::{NoMemory, Text, put_number, read_number};
+use lr_words::{Word, put_word};
 
 impl Operation for TallyOp {
     ghost kind_of = { tally_kind };
@@ -66,7 +66,7 @@ pub(crate) fn put_op(op: &TallyOp, out: &mut Text) -> Result<(), NoMemory>
             out.extend(b"add ")?;
             put_word(name, out)?;
             out.extend(b" ")?;
-            put_decimal(*amount, out)
+            put_number(*amount, out)
         }
         TallyOp::Read { name } => {
             out.extend(b"read ")?;

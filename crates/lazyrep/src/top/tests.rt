@@ -6,8 +6,8 @@ use std::alloc::Global;
 use std::test::Fail;
 
 // The smallest whole script: an update, its reply, a query, its answer and the state.
-const SCRIPT: &str =
-    "lazyrep 1 tally 1 1 10\ncall 0 0 5 add x 3\ndeliver 1\ndeliver 2\ncall 0 0 6 read x\ndeliver 3\ndeliver 4\nshow 0\n";
+const SCRIPT: &str = "lazyrep 1 tally 1 1 10\ncall 0 0 5 add x 3\ndeliver 1\ndeliver 2\n\
+    call 0 0 6 read x\ndeliver 3\ndeliver 4\nshow 0\n";
 
 const USAGE: &str = "usage: lazyrep sim | run | gen NUMBER\n";
 

@@ -5,17 +5,17 @@ use Rattle.lr_script.specs.Script.{IsScript}
 use Rattle.lr_script.specs.declared.heading.Header.{Header}
 use Rattle.lr_script.proofs.OneMeaning.{head_fault_is, script_exactly, fault_exactly}
 use Rattle.lr_script.proofs.Refusing.{head_refused, lines_refused}
-use Rattle.lr_script.proofs.ScriptRefusals.{head_fault, head_refuted, script_read}
+use Rattle.lr_script.proofs.ScriptRefusals.{head_fault, events_read, head_refuted}
 use Rattle.lr_script.proofs.reading.read_script.Goals as goal
 
-pub returns-in-Ok-clause-same : goal.returns-in-Ok-clause-same
-returns-in-Ok-clause-same g c = λ header has. script_read g.S.Service.meaning c.args.bytes.now c.in-Ok.lines.now c.in-Ok.header header c.read_events.result c.in-Ok.ensures.valid c.in-Ok.ensures.short c.in-Ok.ensures.text c.read_events.ensures.fit c.read_events.ensures.text has
+pub returns-in-Ok-clause-ok : goal.returns-in-Ok-clause-ok
+returns-in-Ok-clause-ok g c = events_read g.S.Service.meaning c.args.bytes.now c.in-Ok.lines.now c.in-Ok.header c.read_events.result c.in-Ok.ensures.valid c.in-Ok.ensures.short c.in-Ok.ensures.text c.read_events.ensures.fit c.read_events.ensures.text
 
-pub returns-in-Ok-clause-refused : goal.returns-in-Ok-clause-refused
-returns-in-Ok-clause-refused g c = lines_refused g.S.Service.meaning g.met.S.Service.lawful.printable_text c.args.bytes.now c.in-Ok.lines.now c.in-Ok.header c.in-Ok.ensures.valid c.in-Ok.ensures.short c.in-Ok.ensures.text c.read_events.result c.read_events.ensures.err
+pub returns-in-Ok-clause-err : goal.returns-in-Ok-clause-err
+returns-in-Ok-clause-err g c = lines_refused g.S.Service.meaning g.met.S.Service.lawful.printable_text c.args.bytes.now c.in-Ok.lines.now c.in-Ok.header c.in-Ok.ensures.valid c.in-Ok.ensures.short c.in-Ok.ensures.text c.read_events.result c.read_events.ensures.err
 
-pub returns-in-Err-clause-refused : goal.returns-in-Err-clause-refused
-returns-in-Err-clause-refused g c = head_refused g.S.Service.meaning g.met.S.Service.lawful.printable_text c.args.bytes.now c.in-Err.fault c.in-Err.ensures.err
+pub returns-in-Err-clause-err : goal.returns-in-Err-clause-err
+returns-in-Err-clause-err g c = head_refused g.S.Service.meaning g.met.S.Service.lawful.printable_text c.args.bytes.now c.in-Err.fault c.in-Err.ensures.err
 
 pub returns-in-Ok-clause-whole : goal.returns-in-Ok-clause-whole
 returns-in-Ok-clause-whole g c =

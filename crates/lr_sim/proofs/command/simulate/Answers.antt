@@ -1,6 +1,6 @@
 use Rattle.std.proofs.Common.{refl, Ok}
 use Rattle.lr_script.specs.declared.heading.Name.TheVariants.{Tally, Mail, Claims}
-use Rattle.lr_sim.proofs.Ending.{head-means, means-named, named-by, one-header, refusals-of}
+use Rattle.lr_sim.proofs.Ending.{head-means, means-named, one-header, refusals-of}
 use Rattle.lr_sim.proofs.command.simulate.Goals as goal
 
 pub returns-in-Tally-clause-meant : goal.returns-in-Tally-clause-meant

@@ -1,14 +1,15 @@
-use Rattle.std.proofs.Common.{◌≡◌, ◌≤◌, map, take}
-use Rattle.lr_graph.specs.Legal.{IsLegal}
-use Rattle.lr_sim.proofs.Writing.{IsWritten}
+use Rattle.std.proofs.Common.{◌≡◌, ◌≤◌, take, drop}
+use Rattle.lr_script.specs.Script.{events_text}
+use Rattle.lr_sim.proofs.Writing.{IsRun}
+use Rattle.lr_world.specs.Worlds.{run_of, setup_of}
 use Rattle.lr_sim.proofs.command.write_history.Given as goal
 
--- the world has the header's set-up, its steps are those of the events so far and a legal history, they are printed, and no fault was taken back
+-- the run has the header's set-up, so many events were made, these are their printed steps, the other events' lines are left, and no fault was taken back
 abbrev pub invariant-loop-event : goal.invariant-loop-event
 invariant-loop-event g l = record {
-  setup : l.world.config ≡ l.header.config;
-  legal : IsLegal g.S.Service.meaning l.header.config l.world.steps;
-  events : map (λ s. s.event) l.world.steps ≡ take l.event-index l.events;
-  printed : IsWritten g.S.Service.meaning l.header l.world.steps (g.W.Sink.held l.initial.out) (g.W.Sink.held l.out) l.text;
+  setup : setup_of l.run ≡ l.header.config;
+  number : l.number ≡ l.event-index;
+  lines : l.lines ≡ events_text g.S.Service.meaning (drop l.event-index l.events);
+  so_far : IsRun g.S.Service.meaning l.header (take l.event-index l.events) (run_of l.run) (g.W.Sink.held l.initial.out) (g.W.Sink.held l.out) l.text;
   later : g.W.Sink.faults l.initial.out ≤ g.W.Sink.faults l.out;
 }
