@@ -27,7 +27,8 @@ AllReceived rep_ts updates = (k : ℕ) → ForSome (slice_get updates k) (λ u. 
 abbrev pub AllAcksReceived : List ℕ → List LogAck → Type 0
 AllAcksReceived rep_ts acks = (k : ℕ) → ForSome (slice_get acks k) (λ a. is_new rep_ts a.spot ≡ false)
 
--- gossip of a run whose stamps have these many parts: each of its updates can be applied, and its own stamp says that each item of it was received
+-- gossip of a run whose stamps have these many parts: each update of it can be applied, and by its own stamp each item
+-- of it was received
 pub record IsGossip {Op : Type 0} (kind_of : Op → Kind) (parts : ℕ) (gossip : Gossip Op) : Type 0 where
   pub rep_parts : length gossip.rep_ts ≡ parts
   pub logged : AllLogged kind_of parts gossip.updates

@@ -6,7 +6,8 @@ use Rattle.lr_base.specs.Rules.{CausalState, is_new}
 use Rattle.lr_base.specs.Stamps.{stamp_le}
 use Rattle.lr_value.specs.Applied.{Applied}
 
--- what a savepoint remembers of a state: the stamps and the one row that a step may overwrite, how long its lists were, and the value where it was changed
+-- what a savepoint remembers of a state: the stamps and the one row that a step may overwrite, how long its lists were,
+-- and the value where it was changed
 pub record Saved (Value : Type 0) : Type 0 where
   pub rep_ts : List ℕ
   pub top : ℕ
@@ -57,7 +58,7 @@ pub record IsSame {Value Op : Type 0} (before after : ReplicaState Value Op) : T
   pub setting : after.config ≡ before.config
   pub number : after.me ≡ before.me
 
--- whatever came of a part of a step, it is the same replica, and a savepoint with this row gives back what it gave back before
+-- whatever came of a part of a step, it is the same replica, and a savepoint with this row gives back what it did before
 pub record CanUndo {Value Op : Type 0} (row : ℕ) (before after : ReplicaState Value Op) : Type 0 where
   pub same : IsSame before after
   pub points : (p : Saved Value) (start : CausalState Value Op) → p.heard ≡ row

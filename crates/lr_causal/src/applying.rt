@@ -1,15 +1,15 @@
 //! Applying what is ready to a copy of the value.
 ghost use Rattle.std.specs.Prelude.{◌≡◌, length, take, IfOk, OnErr};
 ghost use Rattle.lr_base.specs.Logged.{AllKnown, AllLogged};
-ghost use Rattle.lr_base.specs.Rules.{apply_ready as rule, waiting};
-ghost use Rattle.lr_value.specs.Applied.{progress};
+ghost use Rattle.lr_value.specs.Applied.{all_ready, progress};
 
 use crate::calls::CallTable;
 use lr_base::lr_service::Service;
 use lr_base::{LogUpdate, NoMemory};
 use lr_value::Value;
 
-/// The value with all that is ready applied to it. The table of calls grows where it is, and is cut back on want of memory.
+/// The value with all that is ready applied to it. The table of calls grows where it is, and is cut back on want of
+/// memory.
 pub fn apply_copy<S: Service>(
     updates: &[LogUpdate<S::Op>],
     value: &Value<S>,
@@ -17,10 +17,12 @@ pub fn apply_copy<S: Service>(
 ) -> Result<Value<S>, NoMemory>
     requires logged { AllLogged S.Op.kind_of (length value.now.val_ts) updates.now }
     requires known { AllKnown (length value.now.val_ts) calls.old }
-    ensures ok { let todo = waiting value.now.val_ts updates.now in IfOk result (λ next. progress next calls.new ≡ rule S.meaning (length todo) todo (progress value.now calls.old)) }
+    // what is applied
+    ensures ok { IfOk result (λ next. (length next.val_ts ≡ length value.now.val_ts)
+        × (progress next calls.new ≡ all_ready S.meaning updates.now (progress value.now calls.old))) }
+    // what stays
     ensures err { OnErr result (calls.new ≡ calls.old) }
     ensures grown { take (length calls.old) calls.new ≡ calls.old }
-    ensures parts { IfOk result (λ next. length next.val_ts ≡ length value.now.val_ts) }
     ensures known { AllKnown (length value.now.val_ts) calls.new }
 {
     let count = calls.len();

@@ -52,12 +52,15 @@ pub struct Causal<S: Service> {
 }
 
 impl<S: Service> Causal<S> {
-    ghost use Rattle.std.specs.Prelude.{◌≡◌, ◌+◌, ◌<◌, ◌^◌, ℕ, find, length, IfSome, IfOk, OnOk, OnErr};
+    ghost use Rattle.std.specs.Prelude.{◌≡◌, ◌+◌, ◌<◌, ℕ, find, length, IfSome, IfOk, OnOk, OnErr};
     ghost use Rattle.lr_causal.specs.Causal.{AgainHasParts, IsAnswerOf, IsGossip, IsUpdateCall};
     ghost use Rattle.lr_causal.specs.Savepoint.{CanUndo, HasShapeOf, IsPointOf, IsSame};
     ghost use Rattle.lr_base.specs.Config.{IsValid};
     ghost use Rattle.lr_base.specs.Kinds.{IsQuery, IsUpdate};
-    ghost use Rattle.lr_base.specs.Rules.{CausalState, accepted, answer_of, applied, pruned, first_state, fresh_of, gossip_of, gossip_taken, held_more, known_of, new_count, same_cid, stamp_of, taken_before, update_of_call};
+    ghost use Rattle.lr_base.specs.Rules.{CausalState, accepted, answer_of, applied, first_state, fresh_of, gossip_of};
+    ghost use Rattle.lr_base.specs.Rules.{gossip_taken, held_more, known_of, new_count, pruned, same_cid, taken_before};
+    ghost use Rattle.lr_base.specs.Rules.{update_of_call};
+    ghost use Rattle.lr_base.specs.Limits.{last_number};
     ghost use Rattle.lr_base.specs.Stamps.{part};
     ghost use Rattle.lr_base.specs.Steps.{still_held};
     ghost use Rattle.lr_causal.specs.State.{config_of, me_of, replica_of, state_of};
@@ -66,7 +69,8 @@ impl<S: Service> Causal<S> {
     pub fn new(alloc: Global, config: Config, me: u8) -> Result<Self, NoMemory>
         requires valid { IsValid config }
         requires own_place { me < config.replicas }
-        ensures state { IfOk result (λ made. state_of made ≡ first_state S.meaning config.replicas (config.replicas + 1)) }
+        ensures state { let first = first_state S.meaning config.replicas (config.replicas + 1) in
+            IfOk result (λ made. state_of made ≡ first) }
         ensures config { IfOk result (λ made. config_of made ≡ config) }
         ensures me { IfOk result (λ made. me_of made ≡ me) }
     {
@@ -242,7 +246,8 @@ impl<S: Service> Causal<S> {
     // Where the call was executed, or else the least spot at which it is logged.
     fn taken_before(&self, cid: Cid) -> Option<Known>
         ensures parts { IfSome result (λ known. length known.stamp ≡ (config_of self.now).replicas + 1) }
-        ensures taken { result ≡ taken_before (known_of (state_of self.now).calls cid) (find (λ u. same_cid u.cid cid) (state_of self.now).updates) }
+        ensures taken { let state = state_of self.now in
+            result ≡ taken_before (known_of state.calls cid) (find (λ u. same_cid u.cid cid) state.updates) }
     {
         if let Some(known) = self.calls.find(cid) {
             return Some(known.copy());
@@ -257,7 +262,7 @@ impl<S: Service> Causal<S> {
     /// Takes a call as this replica's next update.
     pub fn accept(&mut self, call: &Call<S::Op>) -> Result<(Spot, Stamp), NoMemory>
         requires call { IsUpdateCall S.Op.kind_of ((config_of self.old).replicas + 1) call.now }
-        requires not_worn { part (state_of self.old).rep_ts (me_of self.old) < 2 ^ 62 }
+        requires not_worn { part (state_of self.old).rep_ts (me_of self.old) < last_number }
         // the update that is logged, and what is answered of it
         ensures ok { OnOk result (state_of self.new ≡ accepted (me_of self.old) (state_of self.old) call.now) }
         ensures answer { let u = update_of_call (me_of self.old) (state_of self.old) call.now in
@@ -302,7 +307,8 @@ impl<S: Service> Causal<S> {
         })
     }
 
-    /// Takes gossip of another replica: what is new is logged, and its stamp is joined. It answers how many items were new.
+    /// Takes gossip of another replica: what is new is logged, and its stamp is joined. It answers how many items were
+    /// new.
     pub fn take_gossip(&mut self, from: u8, gossip: &Gossip<S::Op>) -> Result<u64, NoMemory>
         requires from { from < (config_of self.old).replicas }
         requires gossip { IsGossip S.Op.kind_of ((config_of self.old).replicas + 1) gossip.now }
@@ -326,7 +332,8 @@ impl<S: Service> Causal<S> {
 
     /// Applies all that is ready, and drops what is known everywhere.
     pub fn settle(&mut self) -> Result<(), NoMemory>
-        ensures ok { OnOk result (state_of self.new ≡ pruned (config_of self.old).replicas (applied S.meaning (state_of self.old))) }
+        ensures ok { let ready = applied S.meaning (state_of self.old) in
+            OnOk result (state_of self.new ≡ pruned (config_of self.old).replicas ready) }
         ensures err { OnErr result (state_of self.new ≡ state_of self.old) }
         ensures same { IsSame (replica_of self.old) (replica_of self.new) }
     {
@@ -384,11 +391,12 @@ impl<S: Service> Causal<S> {
         }
     }
 
-    /// Gives back the state in which the savepoint was made, where only `accept`, `take_gossip` of the replica whose row it
-    /// has, `hold` and `apply` have changed it since. It takes no memory.
+    /// Gives back the state in which the savepoint was made, where only `accept`, `take_gossip` of the replica whose row
+    /// it has, `hold` and `apply` have changed it since. It takes no memory.
     pub fn restore(&mut self, point: Savepoint<S>)
         requires { HasShapeOf point (state_of self.old) }
-        ensures state { (before : CausalState S S.Op) → IsPointOf point (state_of self.old) before → state_of self.new ≡ before }
+        ensures state { (before : CausalState S S.Op) → IsPointOf point (state_of self.old) before
+            → state_of self.new ≡ before }
         ensures same { IsSame (replica_of self.old) (replica_of self.new) }
     {
         self.log.drop_new(&point.rep_ts);

@@ -7,7 +7,8 @@ use lr_base::lr_service::Service;
 use lr_value::Value;
 use std::marker::Model;
 
-/// A replica's state before a step, as far as a step may overwrite it: its stamps, how long its lists were, and its value once that is changed.
+/// A replica's state before a step, as far as a step may overwrite it: its stamps, how long its lists were, and its value
+/// once that is changed.
 #[derive(Drop)]
 pub struct Savepoint<S: Service> {
     pub(crate) rep_ts: Stamp,
@@ -28,7 +29,10 @@ impl<S: Service> Model for Savepoint<S> {
 
     ghost Value = { Saved S };
 
-    ghost view = { λ it. record { rep_ts = it.rep_ts; top = it.top; heard = it.heard; row = it.row; calls = it.calls; held = it.held; applied = it.applied } };
+    ghost view = { λ it. record {
+        rep_ts = it.rep_ts; top = it.top; heard = it.heard; row = it.row;
+        calls = it.calls; held = it.held; applied = it.applied
+    } };
 }
 
 impl<S: Service> Savepoint<S> {

@@ -1,6 +1,7 @@
 -- What becomes of a front end that is called, and of a reply that comes to it.
-use Rattle.std.specs.Prelude.{◌≡◌, ◌≢◌, ◌^◌, ℕ, Option, None, Some, Result, Ok, Err, length}
+use Rattle.std.specs.Prelude.{◌≡◌, ◌≢◌, ℕ, Option, None, Some, Result, Ok, Err, length}
 use Rattle.lr_base.specs.Fronts.{FrontState, called, clock_read, message_of}
+use Rattle.lr_base.specs.Limits.{last_number}
 use Rattle.lr_base.specs.declared.lr_service.Kind.{Kind}
 use Rattle.lr_base.specs.declared.messages.Message.{Message}
 use Rattle.lr_base.specs.declared.names.Cid.{Cid}
@@ -12,15 +13,17 @@ use Rattle.lr_world.specs.declared.front.Taken.TheVariants.{Got, Stale}
 -- no call is open, and a further one can be numbered
 pub record IsFree (front : FrontState) : Type 0 where
   pub closed : front.open_call ≡ None
-  pub not_worn : front.calls ≢ 2 ^ 62
+  pub not_worn : front.calls ≢ last_number
 
--- a free front end makes its next call, unless there is no memory; else it says what holds it up, and its reading counts all the same
+-- a free front end makes its next call, unless there is no memory; else it says what holds it up, and its reading counts
+-- all the same
 abbrev pub HasCalled : {Op : Type 0} → Kind → ℕ → Op → FrontState → FrontState → Result (Message Op) CallFault → Type 0
 HasCalled kind reading op before now (Ok message) =
     IsFree before × (now ≡ called reading before) × (message ≡ message_of kind before reading op)
-HasCalled kind reading op before now (Err (Unfinished cid)) = (before.open_call ≡ Some cid) × (now ≡ clock_read reading before)
+HasCalled kind reading op before now (Err (Unfinished cid)) =
+    (before.open_call ≡ Some cid) × (now ≡ clock_read reading before)
 HasCalled kind reading op before now (Err Worn) =
-    (before.open_call ≡ None) × (before.calls ≡ 2 ^ 62) × (now ≡ clock_read reading before)
+    (before.open_call ≡ None) × (before.calls ≡ last_number) × (now ≡ clock_read reading before)
 HasCalled kind reading op before now (Err NoMemory) = IsFree before × (now ≡ before)
 
 -- it is still the same client's, and its label has as many parts

@@ -17,12 +17,14 @@ use Rattle.lr_world.specs.declared.task.Task.{Task}
 use Rattle.lr_world.specs.declared.task.Task.TheVariants.{Take, Tell}
 
 -- a part of a replica's step ended so: this is its state, and what it did stands in the outbox behind what stood there
-pub record HasDone {Value Op : Type 0} (end : Ending Value Op) (state : CausalState Value Op) (before now : Outboxed Op) : Type 0 where
+pub record HasDone {Value Op : Type 0} (end : Ending Value Op) (state : CausalState Value Op)
+    (before now : Outboxed Op) : Type 0 where
   pub state_is : state ≡ end.state
   pub acts_are : now ≡ after_acts before end.acts
 
 -- and so did a front end's
-pub record HasFrontDone {Op : Type 0} (end : FrontEnding Op) (front : FrontState) (before now : Outboxed Op) : Type 0 where
+pub record HasFrontDone {Op : Type 0} (end : FrontEnding Op) (front : FrontState)
+    (before now : Outboxed Op) : Type 0 where
   pub front_is : front ≡ end.front
   pub acts_are : now ≡ after_acts before end.acts
 

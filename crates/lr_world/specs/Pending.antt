@@ -27,7 +27,8 @@ IsActing config (AtFront client front) = (client < config.clients) × IsFront co
 IsActing config (AtReplica me point) = me < config.replicas
 
 -- a replica ends its step
-abbrev pub replica_finished : {Value Op : Type 0} → RunState Value Op → ℕ → Option (ReplicaState Value Op) → RunState Value Op
+abbrev pub replica_finished : {Value Op : Type 0} → RunState Value Op → ℕ → Option (ReplicaState Value Op)
+    → RunState Value Op
 replica_finished run me None = run
 replica_finished run me (Some r) = record run {
   replicas = set run.replicas me (record r { causal = finished r.config.replicas r.causal });
@@ -40,7 +41,8 @@ completed (AtFront client front) run = with_front run client front
 completed (AtReplica me point) run = replica_finished run me (slice_get run.replicas me)
 
 -- one of the replicas has begun a step, and its savepoint gives back what it was
-pub record HasBegunAt {Value Op : Type 0} (me : ℕ) (point : Saved Value) (before now : List (ReplicaState Value Op)) : Type 0 where
+pub record HasBegunAt {Value Op : Type 0} (me : ℕ) (point : Saved Value)
+    (before now : List (ReplicaState Value Op)) : Type 0 where
   pub was : ReplicaState Value Op
   pub is : ReplicaState Value Op
   pub at_place : slice_get before me ≡ Some was
@@ -49,7 +51,8 @@ pub record HasBegunAt {Value Op : Type 0} (me : ℕ) (point : Saved Value) (befo
   pub undoes : IsPointOf point is.causal was.causal
 
 -- the replicas are those of before, but for one that has begun a step
-abbrev pub HaveBegun : {Value Op : Type 0} → Acting Value Op → List (ReplicaState Value Op) → List (ReplicaState Value Op) → Type 0
+abbrev pub HaveBegun : {Value Op : Type 0} → Acting Value Op → List (ReplicaState Value Op)
+    → List (ReplicaState Value Op) → Type 0
 HaveBegun Nobody before now = now ≡ before
 HaveBegun (AtFront client front) before now = now ≡ before
 HaveBegun (AtReplica me point) before now = HasBegunAt me point before now
@@ -61,14 +64,16 @@ pub record CanTakeBack {Value Op : Type 0} (pending : Pending Value Op) (before 
   pub replicas : HaveBegun pending.who before.replicas now.replicas
 
 -- a step is made up to what can't fail: finished it is this one, these are its lines, and it can be taken back
-pub record HasBegun {Value Op : Type 0} (config : Config) (made : Stepped Value Op) (before now : RunState Value Op) (lines : List Outcome) (pending : Pending Value Op) : Type 0 where
+pub record HasBegun {Value Op : Type 0} (config : Config) (made : Stepped Value Op) (before now : RunState Value Op)
+    (lines : List Outcome) (pending : Pending Value Op) : Type 0 where
   pub acting : IsActing config pending.who
   pub finishes : completed pending.who now ≡ made.run
   pub printed : lines ≡ made.outcomes
   pub undoes : CanTakeBack pending before now
 
 -- a message that was sent is given to a replica
-abbrev pub message_given : {Value Op : Type 0} → Meaning Value Op → RunState Value Op → ℕ → Option (Posted Op) → Stepped Value Op
+abbrev pub message_given : {Value Op : Type 0} → Meaning Value Op → RunState Value Op → ℕ → Option (Posted Op)
+    → Stepped Value Op
 message_given m run me None = unchanged run []
 message_given m run me (Some p) = given m run (Replica me) p.from p.message
 
@@ -89,13 +94,15 @@ IsOrderOf config (Tell to) = to < config.replicas
 
 -- the task of an order: the message at the index with its sender, or whom to tell
 abbrev pub IsTaskOf : {Op : Type 0} → List (Posted Op) → Order → Task Op → Type 0
-IsTaskOf posted (Take at) (TakeTask from message) = ForSome (slice_get posted at) (λ p. (p.from ≡ from) × (p.message ≡ message.now))
+IsTaskOf posted (Take at) (TakeTask from message) =
+    ForSome (slice_get posted at) (λ p. (p.from ≡ from) × (p.message ≡ message.now))
 IsTaskOf posted (Take at) (TellTask to) = ⊥
 IsTaskOf posted (Tell to) (TakeTask from message) = ⊥
 IsTaskOf posted (Tell to) (TellTask told) = told ≡ to
 
 -- these messages of an actor are sent, and nothing else has changed
-pub record HasSent {Value Op : Type 0} (who : Acting Value Op) (out : Outboxed Op) (before now : RunState Value Op) (lines : List Outcome) (pending : Pending Value Op) : Type 0 where
+pub record HasSent {Value Op : Type 0} (who : Acting Value Op) (out : Outboxed Op) (before now : RunState Value Op)
+    (lines : List Outcome) (pending : Pending Value Op) : Type 0 where
   pub actor : pending.who ≡ who
   pub number : pending.sent ≡ length before.posted
   pub run : now ≡ record before { posted = before.posted ++ out.posts }

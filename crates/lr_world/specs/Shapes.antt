@@ -59,7 +59,8 @@ abbrev pub is_actor : Config → Actor → Bool
 is_actor config (Client client) = nat_lt client config.clients
 is_actor config (Replica replica) = nat_lt replica config.replicas
 
--- a message of this run: its stamp has a part for each place, its client is one of the run's, and what it tells can be logged and was received
+-- a message of this run: its stamp has a part for each place, its client is one of the run's, and what it tells can be
+-- logged and was received
 pub record IsShaped {Op : Type 0} (kind_of : Op → Kind) (config : Config) (message : Message Op) : Type 0 where
   pub parts : length (stamp_in message) ≡ config.replicas + 1
   pub client : has_client config message ≡ true
@@ -69,7 +70,8 @@ pub record IsShaped {Op : Type 0} (kind_of : Op → Kind) (config : Config) (mes
   pub acks_received : AllAcksReceived (stamp_in message) (acks_in message)
 
 -- whoever gets a message of this run is one of the run's clients or replicas
-pub record IsSendable {Op : Type 0} (kind_of : Op → Kind) (config : Config) (to : Actor) (message : Message Op) : Type 0 where
+pub record IsSendable {Op : Type 0} (kind_of : Op → Kind) (config : Config) (to : Actor)
+    (message : Message Op) : Type 0 where
   pub to_known : is_actor config to ≡ true
   pub shaped : IsShaped kind_of config message
 

@@ -19,7 +19,8 @@ pub record IsAsked {Op : Type 0} (kind_of : Op → Kind) (config : Config) (call
 abbrev pub AllAsked : {Op : Type 0} → (Op → Kind) → Config → List (Call Op) → Type 0
 AllAsked kind_of config calls = (k : ℕ) → ForSome (slice_get calls k) (IsAsked kind_of config)
 
--- a replica of its run: each stamp has a part for each place, each item was received, and each held query is one of the run
+-- a replica of its run: each stamp has a part for each place, each item was received, and each held query is one of the
+-- run
 pub record IsSound {Value Op : Type 0} (kind_of : Op → Kind) (r : ReplicaState Value Op) : Type 0 where
   pub own_place : r.me < r.config.replicas
   pub rep_parts : length r.causal.rep_ts ≡ r.config.replicas + 1

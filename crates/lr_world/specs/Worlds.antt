@@ -24,6 +24,7 @@ abbrev pub lines_of : {S Op : Type 0} {g : _} {h : _} → Run S Op g h → List 
 lines_of r = r.outbox.lines
 
 -- a run came to this by an event, and these lines are printed of it
-pub record HasStepped {Value Op : Type 0} (made : Stepped Value Op) (now : RunState Value Op) (lines : List Outcome) : Type 0 where
+pub record HasStepped {Value Op : Type 0} (made : Stepped Value Op) (now : RunState Value Op)
+    (lines : List Outcome) : Type 0 where
   pub run : now ≡ made.run
   pub printed : lines ≡ made.outcomes

@@ -4,11 +4,8 @@ ghost use Rattle.lr_base.specs.Fronts.{new_front, reply_taken};
 ghost use Rattle.lr_world.specs.Called.{HasCalled, IsSameFront, IsTaken};
 
 use lr_base::lr_service::{Kind, Operation};
-use lr_base::{Call, Cid, Message, NoMemory, Stamp};
+use lr_base::{Call, Cid, LAST_NUMBER, Message, NoMemory, Stamp};
 use std::marker::Model;
-
-// The greatest number of a client's calls.
-const LAST_CALL: u64 = 1 << 62;
 
 /// Why a call was refused.
 #[derive(Clone, Copy, PartialEq, Eq)]
@@ -41,13 +38,16 @@ pub struct Front {
 
 impl Model for Front {
     ghost use Rattle.lr_base.specs.Fronts.{FrontState};
-    ghost use Rattle.std.specs.Prelude.{◌≤◌, ◌^◌};
+    ghost use Rattle.std.specs.Prelude.{◌≤◌};
+    ghost use Rattle.lr_base.specs.Limits.{last_number};
 
     ghost Value = { FrontState };
 
-    ghost view = { λ it. record { client = it.client; clock = it.clock; label = it.label; calls = it.calls; open_call = it.open_call } };
+    ghost view = { λ it. record {
+        client = it.client; clock = it.clock; label = it.label; calls = it.calls; open_call = it.open_call
+    } };
 
-    ghost invariant = { λ it. it.calls ≤ 2 ^ 62 };
+    ghost invariant = { λ it. it.calls ≤ last_number };
 }
 
 impl Front {
@@ -93,7 +93,7 @@ impl Front {
             self.clock = self.clock.max(reading);
             return Err(CallFault::Unfinished(cid));
         }
-        if self.calls == LAST_CALL {
+        if self.calls == LAST_NUMBER {
             self.clock = self.clock.max(reading);
             return Err(CallFault::Worn);
         }

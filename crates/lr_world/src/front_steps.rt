@@ -19,7 +19,8 @@ pub fn on_call<S: Service>(
     out: &mut Outbox<S::Op>,
 ) -> Result<(), NoMemory>
     ensures did { let it = front.old in
-        let end = front_on_call (S.meaning.kind op.now) (Actor.Replica replica) reading op.now it it.open_call (it.calls == 2 ^ 62) in
+        let worn = it.calls == 2 ^ 62 in
+        let end = front_on_call (S.meaning.kind op.now) (Actor.Replica replica) reading op.now it it.open_call worn in
         OnOk result (HasFrontDone end front.new out.old out.new) }
     ensures same { IsSameFront front.old front.new }
 {

@@ -5,19 +5,10 @@ ghost use Rattle.lr_world.specs.Outboxes.{after_acts};
 use crate::outbox::Outbox;
 use crate::task::Task;
 use lr_base::lr_service::{Operation, Service};
-use lr_base::{
-    Act, Actor, Call, Cid, Config, Fresh, Gossip, Message, NoMemory, Outcome, Refusal, Rows, Spot,
-    Stamp, StateLine, Text,
-};
+use lr_base::{Act, Actor, Call, Cid, Config, Fresh, Gossip, HELD_ROOM, LAST_NUMBER, Message, NoMemory, Outcome, Refusal, Rows, Spot, Stamp, StateLine, Text};
 use lr_causal::{Causal, Savepoint};
 use std::alloc::Global;
 use std::marker::Model;
-
-// How many queries a replica holds at the most.
-const HELD_ROOM: usize = 1024;
-
-// The greatest number of a replica's items.
-const LAST_ITEM: u64 = 1 << 62;
 
 /// A replica: its causal part, and what is asked of it.
 #[derive(Drop)]
@@ -38,13 +29,16 @@ impl<S: Service> Model for Replica<S> {
 }
 
 impl<S: Service> Replica<S> {
-    ghost use Rattle.std.specs.Prelude.{◌≡◌, ◌+◌, ◌==◌, ℕ, true, ◌<◌, [], ◌∷◌, ◌++◌, length, map, nat_lt, IfOk, OnOk, OnErr};
+    ghost use Rattle.std.specs.Prelude.{◌≡◌, ◌+◌, ◌==◌, ◌<◌, ◌∷◌, ◌++◌, ℕ, true, [], length, map, nat_lt};
+    ghost use Rattle.std.specs.Prelude.{IfOk, OnOk, OnErr};
     ghost use Rattle.lr_base.specs.Config.{IsValid};
+    ghost use Rattle.lr_base.specs.Limits.{held_room};
     ghost use Rattle.lr_base.specs.Stamps.{stamp_le};
     ghost use Rattle.lr_base.specs.Ascending.{ascending};
     ghost use Rattle.lr_base.specs.Replicas.{first_replica, state_line_of};
     ghost use Rattle.lr_base.specs.Rules.{CausalState, fresh_of, gossip_of};
-    ghost use Rattle.lr_base.specs.Steps.{call_taken, gossip_given, has_number, has_room, held_acts, own_taken, query_held, query_taken, update_taken};
+    ghost use Rattle.lr_base.specs.Steps.{call_taken, gossip_given, has_number, has_room, held_acts, own_taken};
+    ghost use Rattle.lr_base.specs.Steps.{query_held, query_taken, update_taken};
     ghost use Rattle.lr_causal.specs.Causal.{IsGossip, IsUpdateCall};
     ghost use Rattle.lr_causal.specs.Savepoint.{CanUndo, IsPointOf, IsSame};
     ghost use Rattle.lr_world.specs.Outboxes.{after_acts};
@@ -81,7 +75,8 @@ impl<S: Service> Replica<S> {
     ) -> Result<Savepoint<S>, NoMemory>
         requires { IsTask S.Op.kind_of self.old.config task }
         // what the task does itself, and then what is ready is applied and held queries are answered
-        ensures did { IfOk result (λ point. HasDone (begun S.meaning self.old task.entry) self.new.causal out.old out.new) }
+        ensures did { let end = begun S.meaning self.old task.entry in
+            IfOk result (λ point. HasDone end self.new.causal out.old out.new) }
         // what stays, and can be undone
         ensures same { IsSame self.old self.new }
         ensures point { IfOk result (λ point. IsPointOf point self.new.causal self.old.causal) }
@@ -107,7 +102,8 @@ impl<S: Service> Replica<S> {
     pub fn undo(&mut self, point: Savepoint<S>)
         requires { (before : CausalState S S.Op) × IsPointOf point self.old.causal before }
         ensures same { IsSame self.old self.new }
-        ensures state { (before : CausalState S S.Op) → IsPointOf point self.old.causal before → self.new.causal ≡ before }
+        ensures state { (before : CausalState S S.Op) → IsPointOf point self.old.causal before
+            → self.new.causal ≡ before }
     {
         self.causal.restore(point);
     }
@@ -165,8 +161,8 @@ impl<S: Service> Replica<S> {
     ) -> Result<(), NoMemory>
         requires from { is_actor self.old.config from ≡ true }
         requires shaped { IsShaped S.Op.kind_of self.old.config message.now }
-        ensures did { let it = self.old in
-            OnOk result (HasDone (own_taken S.meaning it.config it.me it.causal from message.now) self.new.causal out.old out.new) }
+        ensures did { let it = self.old in let end = own_taken S.meaning it.config it.me it.causal from message.now in
+            OnOk result (HasDone end self.new.causal out.old out.new) }
         ensures undo { CanUndo (row_of self.old.me from) self.old self.new }
     {
         match from {
@@ -191,8 +187,8 @@ impl<S: Service> Replica<S> {
     ) -> Result<(), NoMemory>
         requires from { from < self.old.config.replicas }
         requires gossip { IsGossip S.Op.kind_of (self.old.config.replicas + 1) gossip.now }
-        ensures did { let it = self.old in
-            OnOk result (HasDone (gossip_given from it.causal gossip.now (from == it.me)) self.new.causal out.old out.new) }
+        ensures did { let it = self.old in let end = gossip_given from it.causal gossip.now (from == it.me) in
+            OnOk result (HasDone end self.new.causal out.old out.new) }
         ensures undo { CanUndo from self.old self.new }
     {
         if from == self.causal.me() {
@@ -228,14 +224,15 @@ impl<S: Service> Replica<S> {
     // An update that is new here.
     fn accept(&mut self, call: &Call<S::Op>, out: &mut Outbox<S::Op>) -> Result<(), NoMemory>
         requires { IsUpdateCall S.Op.kind_of (self.old.config.replicas + 1) call.now }
-        ensures did { let it = self.old in let end = call_taken it.me it.causal call.now (has_room it.causal) (has_number it.me it.causal) in
+        ensures did { let it = self.old in let number = has_number it.me it.causal in
+            let end = call_taken it.me it.causal call.now (has_room it.causal) number in
             OnOk result (HasDone end self.new.causal out.old out.new) }
         ensures undo { (row : ℕ) → CanUndo row self.old self.new }
     {
         if !self.causal.log().has_room() {
             return refuse(Refusal::FullLog, out);
         }
-        if self.causal.rep_ts().part(self.causal.me()) >= LAST_ITEM {
+        if self.causal.rep_ts().part(self.causal.me()) >= LAST_NUMBER {
             return refuse(Refusal::Worn, out);
         }
         let (spot, stamp) = self.causal.accept(call)?;
@@ -247,7 +244,8 @@ impl<S: Service> Replica<S> {
     fn on_query(&mut self, call: &Call<S::Op>, out: &mut Outbox<S::Op>) -> Result<(), NoMemory>
         requires { IsAsked S.Op.kind_of self.old.config call.now }
         ensures did { let it = self.old.causal in
-            OnOk result (HasDone (query_taken S.meaning it call.now (stamp_le call.now.prev it.val_ts)) self.new.causal out.old out.new) }
+            let end = query_taken S.meaning it call.now (stamp_le call.now.prev it.val_ts) in
+            OnOk result (HasDone end self.new.causal out.old out.new) }
         ensures undo { (row : ℕ) → CanUndo row self.old self.new }
     {
         match self.causal.read(&call.prev, &call.op)? {
@@ -259,7 +257,8 @@ impl<S: Service> Replica<S> {
     fn hold(&mut self, call: &Call<S::Op>, out: &mut Outbox<S::Op>) -> Result<(), NoMemory>
         requires { IsAsked S.Op.kind_of self.old.config call.now }
         ensures did { let it = self.old.causal in
-            OnOk result (HasDone (query_held it call.now (nat_lt (length it.held) 1024)) self.new.causal out.old out.new) }
+            let end = query_held it call.now (nat_lt (length it.held) held_room) in
+            OnOk result (HasDone end self.new.causal out.old out.new) }
         ensures undo { (row : ℕ) → CanUndo row self.old self.new }
     {
         if self.causal.held().len() >= HELD_ROOM {
@@ -291,7 +290,8 @@ impl<S: Service> Replica<S> {
 
     // Each held query whose label is now applied is answered.
     fn answer_held(&self, out: &mut Outbox<S::Op>) -> Result<(), NoMemory>
-        ensures { let it = self.now.causal in OnOk result (out.new ≡ after_acts out.old (held_acts S.meaning it it.held)) }
+        ensures { let it = self.now.causal in
+            OnOk result (out.new ≡ after_acts out.old (held_acts S.meaning it it.held)) }
     {
         for call in self.causal.held() {
             self.answer(call, out)?;

@@ -40,7 +40,8 @@ impl<S: Service> Run<S> {
     ghost use Rattle.lr_base.specs.Events.{IsEventOf};
     ghost use Rattle.lr_graph.specs.Runs.{RunState, first_run, given, stepped, unchanged};
     ghost use Rattle.lr_base.specs.Replicas.{ReplicaState};
-    ghost use Rattle.lr_world.specs.Pending.{CanTakeBack, HasBegun, HasSent, HaveBegun, IsActing, IsOrderOf, IsWithin, completed, ordered};
+    ghost use Rattle.lr_world.specs.Pending.{CanTakeBack, HasBegun, HasSent, HaveBegun, IsActing, IsOrderOf, IsWithin};
+    ghost use Rattle.lr_world.specs.Pending.{completed, ordered};
     ghost use Rattle.lr_world.specs.Posts.{AllPosted};
     ghost use Rattle.lr_world.specs.Worlds.{HasStepped, lines_of, run_of, setup_of};
 
@@ -82,11 +83,13 @@ impl<S: Service> Run<S> {
         self.outbox.lines()
     }
 
-    /// Makes one event; `lines` has what is printed of it until the next one. Where there is no memory, nothing has happened.
+    /// Makes one event; `lines` has what is printed of it until the next one. Where there is no memory, nothing has
+    /// happened.
     pub fn step(&mut self, event: &Event<S::Op>) -> Result<(), NoMemory>
         requires { IsEventOf S.meaning (setup_of self.old) event.now }
         ensures setup { setup_of self.new ≡ setup_of self.old }
-        ensures made { OnOk result (HasStepped (stepped S.meaning (run_of self.old) event.now) (run_of self.new) (lines_of self.new)) }
+        ensures made { let made = stepped S.meaning (run_of self.old) event.now in
+            OnOk result (HasStepped made (run_of self.new) (lines_of self.new)) }
         ensures err { OnErr result (run_of self.new ≡ run_of self.old) }
     {
         let pending = self.begin(event)?;
@@ -134,7 +137,8 @@ impl<S: Service> Run<S> {
         requires acting { IsActing (setup_of self.old) pending.who }
         requires begun { (before : RunState S S.Op) × CanTakeBack pending before (run_of self.old) }
         ensures setup { setup_of self.new ≡ setup_of self.old }
-        ensures run { (before : RunState S S.Op) → CanTakeBack pending before (run_of self.old) → run_of self.new ≡ before }
+        ensures run { (before : RunState S S.Op) → CanTakeBack pending before (run_of self.old)
+            → run_of self.new ≡ before }
     {
         self.posted.truncate(pending.sent);
         if let Acting::AtReplica { me, point } = pending.who {

@@ -73,8 +73,8 @@ impl<S: Service> World<S> {
         self.run.sent()
     }
 
-    /// Whether an event names a client and replicas that there are, gossip goes to another replica, and runs have rules for
-    /// the kind of operation that is called.
+    /// Whether an event names a client and replicas that there are, gossip goes to another replica, and runs have rules
+    /// for the kind of operation that is called.
     pub fn fits(&self, event: &Event<S::Op>) -> bool
         ensures { IsTrue result ↔ IsEventOf S.meaning self.now.config event.now }
     {
@@ -97,7 +97,8 @@ impl<S: Service> World<S> {
     /// Makes one event that fits, and answers what is printed of it. Where there is no memory, nothing has happened.
     pub fn step(&mut self, event: &Event<S::Op>) -> Result<Rows<Outcome>, NoMemory>
         requires { IsEventOf S.meaning self.old.config event.now }
-        ensures ok { IfOk result (λ lines. self.new ≡ record self.old { steps = self.old.steps ++ record { event = event.now; outcomes = lines } ∷ [] }) }
+        ensures ok { IfOk result (λ lines. let step : Step S.Op = record { event = event.now; outcomes = lines } in
+            self.new ≡ record self.old { steps = self.old.steps ++ step ∷ [] }) }
         ensures legal { IsLegal S.meaning self.new.config self.new.steps }
         ensures err { OnErr result (self.new ≡ self.old) }
     {

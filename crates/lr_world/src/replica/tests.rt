@@ -156,7 +156,8 @@ fn held_queries_are_answered_behind_an_update(rt: HostRuntime) -> Result<(), Fai
             6,
             [0, 0, 0, 0],
             "add x 3",
-            "accept 0:1 0.6\nto c0 done 0.6 as 0:1 .1.0.0.0\nto c0 answer 0.1 [51] .1.0.0.0\nto c0 answer 0.4 [48] .1.0.0.0\n",
+            "accept 0:1 0.6\nto c0 done 0.6 as 0:1 .1.0.0.0\n\
+             to c0 answer 0.1 [51] .1.0.0.0\nto c0 answer 0.4 [48] .1.0.0.0\n",
         ),
         (
             7,
