@@ -1,10 +1,10 @@
 -- A savepoint stays one of its state through the parts of a step.
-use Rattle.std.proofs.Common.{◌≡◌, ◌+◌, ◌<◌, ℕ, true, not, List, [], length, take, get_or, refl, sym, ◌∙◌, ap, Option, Some, None, arith, lt-ltb}
+use Rattle.std.proofs.Common.{◌≡◌, ◌+◌, ◌<◌, ℕ, true, not, List, [], length, take, get_or, set, refl, sym, ◌∙◌, ap, Option, Some, None, arith, lt-ltb}
 use Rattle.std.specs.Prelude.{filter}
 use Rattle.std.specs.Option.{ForSome}
 use Rattle.std.proofs.Math.ListN.{length-set}
 use Rattle.std.proofs.Math.Seq.{take-length, take-take}
-use Rattle.std.proofs.lemmas.List.{length-take}
+use Rattle.std.proofs.lemmas.List.{length-take, set-get_or, set-set}
 use Rattle.lr_base.specs.declared.messages.Gossip.{Gossip}
 use Rattle.lr_base.specs.declared.messages.Known.{Known}
 use Rattle.lr_base.specs.declared.messages.LogAck.{LogAck}
@@ -14,12 +14,16 @@ use Rattle.lr_base.specs.Rules.{CausalState, gossip_taken, is_new, new_acks, new
 use Rattle.lr_base.specs.Stamps.{join, part, set_part}
 use Rattle.lr_base.specs.StampLaws.{join-least, length-join, length-set_part, parts-stamp_le, stamp_le-refl, stamp_le-trans}
 use Rattle.lr_value.specs.Applied.{Applied}
-use Rattle.lr_causal.specs.Causal.{AllAcksReceived, AllReceived, AllStamps}
+use Rattle.lr_causal.specs.Causal.{AllAcksReceived, AllReceived}
 use Rattle.lr_causal.specs.Savepoint.{HasShapeOf, IsPointOf, Saved, restored, value_before}
 use Rattle.lr_causal.proofs.Kept.{filter-none, filter-put, filter-put_acks, filter-put_all}
 use Rattle.lr_causal.proofs.Each.{Each-passes}
 use Rattle.lr_causal.proofs.Received.{new-earlier, set_part-above}
 use Rattle.lr_log.specs.Items.{Items, items_of}
+
+-- a row that was changed and is put back
+row-back : (table : List (List ℕ)) (from heard : ℕ) (now row : List ℕ) → heard ≡ from → set (set table from now) heard row ≡ set table heard row
+row-back table from heard now row is = rw is (set-set table from now row)
 
 module _ {Value Op : Type 0} where
   -- the value of a state, with its stamp
@@ -30,8 +34,8 @@ module _ {Value Op : Type 0} where
   shape-along : (p : Saved Value) (state new : CausalState Value Op) → length new.rep_ts ≡ length state.rep_ts → length new.table ≡ length state.table → HasShapeOf p state → HasShapeOf p new
   shape-along p state new parts rows shape = record {
     rep_parts = shape.rep_parts ∙ sym parts;
-    rows = shape.rows ∙ sym rows;
-    row_parts = rw parts shape.row_parts;
+    within = rw rows shape.within;
+    row_parts = shape.row_parts ∙ sym parts;
     val_parts = rw parts shape.val_parts;
   }
 
@@ -40,19 +44,23 @@ module _ {Value Op : Type 0} where
   point-same p state new before is point = rw is point
 
   -- a savepoint that was just made
-  pub point-saved : (rep_ts : List ℕ) (table : List (List ℕ)) (calls held : ℕ) (state : CausalState Value Op) → rep_ts ≡ state.rep_ts → table ≡ state.table → calls ≡ length state.calls → held ≡ length state.held → AllReceived state.rep_ts state.updates → AllAcksReceived state.rep_ts state.acks → AllStamps (length state.rep_ts) state.table → IsPointOf (record { rep_ts = rep_ts; top = state.top; table = table; calls = calls; held = held; applied = None }) state state
-  point-saved rep_ts table calls held state stamps rows count waiting received acks_received row_parts =
+  pub point-saved : (rep_ts row : List ℕ) (heard calls held : ℕ) (state : CausalState Value Op)
+      → rep_ts ≡ state.rep_ts → row ≡ get_or state.table heard [] → calls ≡ length state.calls → held ≡ length state.held
+      → heard < length state.table → length (get_or state.table heard []) ≡ length state.rep_ts
+      → AllReceived state.rep_ts state.updates → AllAcksReceived state.rep_ts state.acks
+      → IsPointOf (record { rep_ts = rep_ts; top = state.top; heard = heard; row = row; calls = calls; held = held; applied = None }) state state
+  point-saved rep_ts row heard calls held state stamps own count waiting within parts received acks_received =
       let updates = filter-none (λ (u : LogUpdate Op). is_new state.rep_ts u.spot) state.updates received in
       let acks = filter-none (λ (a : LogAck). is_new state.rep_ts a.spot) state.acks acks_received in
-      rw (stamps, rows, count, waiting) record {
-        restores = rw (updates, acks, take-length state.calls, take-length state.held) refl;
+      rw (stamps, own, count, waiting) record {
+        restores = rw (updates, acks, take-length state.calls, take-length state.held, set-get_or state.table heard []) refl;
         received = stamp_le-refl state.rep_ts;
         calls_most = omega arith;
         held_most = omega arith;
         shape = record {
           rep_parts = refl;
-          rows = refl;
-          row_parts = row_parts;
+          within = within;
+          row_parts = parts;
           val_parts = λ before e. let none : None ≡ Some before = e in cc;
         };
       }
@@ -72,26 +80,33 @@ module _ {Value Op : Type 0} where
         shape = shape-along p state _ (length-set_part state.rep_ts u.spot.place u.spot.number within) refl point.shape;
       }
 
-  -- gossip is taken
-  pub point-taken : (p : Saved Value) (from : ℕ) (state before : CausalState Value Op) (gossip : Gossip Op) → length gossip.rep_ts ≡ length state.rep_ts → IsPointOf p state before → IsPointOf p (gossip_taken from state gossip) before
-  point-taken p from state before gossip long point =
+  -- gossip is taken of the replica whose row is kept
+  pub point-taken : (p : Saved Value) (from : ℕ) (state before : CausalState Value Op) (gossip : Gossip Op) → p.heard ≡ from
+      → length gossip.rep_ts ≡ length state.rep_ts → IsPointOf p state before → IsPointOf p (gossip_taken from state gossip) before
+  point-taken p from state before gossip heard long point =
+      let joined = join (get_or state.table from []) gossip.rep_ts in
+      let all_acks = put_acks (new_acks state.rep_ts gossip.acks) state.acks in
       let updates =
       filter-put_all (λ (u : LogUpdate Op). is_new p.rep_ts u.spot) (new_updates state.rep_ts gossip.updates) state.updates
-      (Each-passes (λ (u : LogUpdate Op). is_new p.rep_ts u.spot ≡ true) (λ u. is_new state.rep_ts u.spot) gossip.updates (λ u new. new-earlier p.rep_ts state.rep_ts u.spot point.received new)) in
+      (Each-passes (λ (u : LogUpdate Op). is_new p.rep_ts u.spot ≡ true) (λ u. is_new state.rep_ts u.spot) gossip.updates
+      (λ u new. new-earlier p.rep_ts state.rep_ts u.spot point.received new)) in
       let acks =
       filter-put_acks (λ (a : LogAck). is_new p.rep_ts a.spot) (new_acks state.rep_ts gossip.acks) state.acks
-      (Each-passes (λ (a : LogAck). is_new p.rep_ts a.spot ≡ true) (λ a. is_new state.rep_ts a.spot) gossip.acks (λ a new. new-earlier p.rep_ts state.rep_ts a.spot point.received new)) in
+      (Each-passes (λ (a : LogAck). is_new p.rep_ts a.spot ≡ true) (λ a. is_new state.rep_ts a.spot) gossip.acks
+      (λ a new. new-earlier p.rep_ts state.rep_ts a.spot point.received new)) in
+      let table = set (set state.table from joined) p.heard p.row in
       record {
         restores =
-            ap (λ (us : List (LogUpdate Op)). record (restored p state) { updates = us; acks = filter (λ a. not (is_new p.rep_ts a.spot)) (put_acks (new_acks state.rep_ts gossip.acks) state.acks) }) updates
-            ∙ ap (λ (as' : List LogAck). record (restored p state) { acks = as' }) acks
+            ap (λ (us : List (LogUpdate Op)). record (restored p state) { updates = us; acks = filter (λ a. not (is_new p.rep_ts a.spot)) all_acks; table = table }) updates
+            ∙ ap (λ (as' : List LogAck). record (restored p state) { acks = as'; table = table }) acks
+            ∙ ap (λ (rows : List (List ℕ)). record (restored p state) { table = rows }) (row-back state.table from p.heard joined p.row heard)
             ∙ point.restores;
         received = stamp_le-trans p.rep_ts state.rep_ts (join state.rep_ts gossip.rep_ts) point.received (join-least state.rep_ts gossip.rep_ts).above_first;
         calls_most = point.calls_most;
         held_most = point.held_most;
         shape =
             shape-along p state (gossip_taken from state gossip) (length-join state.rep_ts gossip.rep_ts (sym long))
-            (length-set state.table from (join (get_or state.table from []) gossip.rep_ts)) point.shape;
+            (length-set state.table from joined) point.shape;
       }
 
   -- what is ready is applied: the value of before is kept, and the table of calls has grown
@@ -107,7 +122,7 @@ module _ {Value Op : Type 0} where
         held_most = point.held_most;
         shape = record {
           rep_parts = point.shape.rep_parts;
-          rows = point.shape.rows;
+          within = point.shape.within;
           row_parts = point.shape.row_parts;
           val_parts = both p.applied point.shape.val_parts;
         };

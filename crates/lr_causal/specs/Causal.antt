@@ -1,14 +1,17 @@
 -- Facts that a causal replica keeps.
 use Rattle.std.specs.Prelude.{◌≡◌, ℕ, false, length, List}
 use Rattle.std.specs.Option.{ForSome}
+use Rattle.lr_base.specs.declared.messages.Call.{Call}
 use Rattle.lr_base.specs.declared.messages.Fresh.{Fresh}
 use Rattle.lr_base.specs.declared.messages.Fresh.TheVariants.{Again}
 use Rattle.lr_base.specs.declared.messages.Gossip.{Gossip}
 use Rattle.lr_base.specs.declared.messages.LogAck.{LogAck}
 use Rattle.lr_base.specs.declared.messages.LogUpdate.{LogUpdate}
 use Rattle.lr_base.specs.declared.lr_service.Kind.{Kind}
+use Rattle.lr_base.specs.declared.names.Spot.{Spot}
+use Rattle.lr_base.specs.Kinds.{IsUpdate}
 use Rattle.lr_base.specs.Logged.{AllLogged}
-use Rattle.lr_base.specs.Rules.{is_new}
+use Rattle.lr_base.specs.Rules.{is_new, stamp_of}
 use Rattle.std.specs.List.{slice_get}
 
 -- the stamp of a call that was taken before has these many parts
@@ -34,3 +37,14 @@ pub record IsGossip {Op : Type 0} (kind_of : Op → Kind) (parts : ℕ) (gossip 
 -- each stamp of a list has these many parts
 abbrev pub AllStamps : ℕ → List (List ℕ) → Type 0
 AllStamps parts stamps = (k : ℕ) → ForSome (slice_get stamps k) (λ stamp. length stamp ≡ parts)
+
+-- the call of an update, whose label has these many parts
+pub record IsUpdateCall {Op : Type 0} (kind_of : Op → Kind) (parts : ℕ) (call : Call Op) : Type 0 where
+  pub label : length call.prev ≡ parts
+  pub update : IsUpdate (kind_of call.op)
+
+-- what is answered of an update that was accepted: its spot, and its stamp, which has these many parts
+pub record IsAnswerOf {Op : Type 0} (parts : ℕ) (u : LogUpdate Op) (answer : Spot × List ℕ) : Type 0 where
+  pub spot : answer.0 ≡ u.spot
+  pub stamp : answer.1 ≡ stamp_of u
+  pub stamp_parts : length answer.1 ≡ parts

@@ -1,16 +1,17 @@
 -- What a replica's savepoint remembers, and the state that it gives back.
-use Rattle.std.specs.Prelude.{◌≡◌, ◌≤◌, ℕ, true, List, Option, Some, None, filter, length, not, take}
+use Rattle.std.specs.Prelude.{◌≡◌, ◌<◌, ◌≤◌, ℕ, true, List, Option, Some, None, filter, length, not, set, take}
 use Rattle.std.specs.Option.{ForSome}
+use Rattle.lr_base.specs.Replicas.{ReplicaState}
 use Rattle.lr_base.specs.Rules.{CausalState, is_new}
 use Rattle.lr_base.specs.Stamps.{stamp_le}
 use Rattle.lr_value.specs.Applied.{Applied}
-use Rattle.lr_causal.specs.Causal.{AllStamps}
 
--- what a savepoint remembers of a state: what a step may overwrite, how long the table of calls and the held queries were, and the value where it was changed
+-- what a savepoint remembers of a state: the stamps and the one row that a step may overwrite, how long its lists were, and the value where it was changed
 pub record Saved (Value : Type 0) : Type 0 where
   pub rep_ts : List ℕ
   pub top : ℕ
-  pub table : List (List ℕ)
+  pub heard : ℕ
+  pub row : List ℕ
   pub calls : ℕ
   pub held : ℕ
   pub applied : Option (Applied Value)
@@ -20,7 +21,7 @@ abbrev pub value_before : {Value : Type 0} → Option (Applied Value) → Applie
 value_before (Some before) now = before
 value_before None now = now
 
--- the state that a savepoint gives back: items that were new since then leave, later calls and queries leave, and the value is the one before
+-- the state that a savepoint gives back: what is new since then leaves, and the row and the value are those of before
 abbrev pub restored : {Value Op : Type 0} → Saved Value → CausalState Value Op → CausalState Value Op
 restored p state =
     let before = value_before p.applied (record { value = state.value; val_ts = state.val_ts }) in
@@ -31,16 +32,16 @@ restored p state =
       updates = filter (λ u. not (is_new p.rep_ts u.spot)) state.updates;
       acks = filter (λ a. not (is_new p.rep_ts a.spot)) state.acks;
       calls = take p.calls state.calls;
-      table = p.table;
+      table = set state.table p.heard p.row;
       top = p.top;
       held = take p.held state.held;
     }
 
--- a savepoint has as many stamps as a state, and each with as many parts
+-- a savepoint has a row of a state, and its stamps have as many parts as the state's
 pub record HasShapeOf {Value Op : Type 0} (p : Saved Value) (state : CausalState Value Op) : Type 0 where
   pub rep_parts : length p.rep_ts ≡ length state.rep_ts
-  pub rows : length p.table ≡ length state.table
-  pub row_parts : AllStamps (length state.rep_ts) p.table
+  pub within : p.heard < length state.table
+  pub row_parts : length p.row ≡ length state.rep_ts
   pub val_parts : ForSome p.applied (λ before. length before.val_ts ≡ length state.rep_ts)
 
 -- from this state the savepoint gives back the one before
@@ -50,3 +51,14 @@ pub record IsPointOf {Value Op : Type 0} (p : Saved Value) (state before : Causa
   pub calls_most : p.calls ≤ length state.calls
   pub held_most : p.held ≤ length state.held
   pub shape : HasShapeOf p state
+
+-- it is still the same replica of the same run
+pub record IsSame {Value Op : Type 0} (before after : ReplicaState Value Op) : Type 0 where
+  pub setting : after.config ≡ before.config
+  pub number : after.me ≡ before.me
+
+-- whatever came of a part of a step, it is the same replica, and a savepoint with this row gives back what it gave back before
+pub record CanUndo {Value Op : Type 0} (row : ℕ) (before after : ReplicaState Value Op) : Type 0 where
+  pub same : IsSame before after
+  pub points : (p : Saved Value) (start : CausalState Value Op) → p.heard ≡ row
+      → IsPointOf p before.causal start → IsPointOf p after.causal start

@@ -1,6 +1,7 @@
 -- What contracts see of a causal replica.
 use Rattle.std.specs.Prelude.{ℕ}
 use Rattle.lr_base.specs.declared.names.Config.{Config}
+use Rattle.lr_base.specs.Replicas.{ReplicaState}
 use Rattle.lr_base.specs.Rules.{CausalState}
 use Rattle.lr_causal.specs.declared.causal.Causal.{Causal}
 
@@ -28,3 +29,7 @@ config_of c = c.config
 -- which replica it is
 abbrev pub me_of : {S Op : Type 0} {g : _} {h : _} → Causal S Op g h → ℕ
 me_of c = c.me
+
+-- all three
+abbrev pub replica_of : {S Op : Type 0} {g : _} {h : _} → Causal S Op g h → ReplicaState S Op
+replica_of c = record { config = config_of c; me = me_of c; causal = state_of c }

@@ -7,7 +7,7 @@ ghost use Rattle.lr_causal.specs.Causal.{AllAcksReceived, AllReceived, AllStamps
 use crate::applying::apply_copy;
 use crate::calls::CallTable;
 use crate::gossip::{copy_updates, new_acks, new_updates};
-use crate::heard::{copy_table, first_table, join_row};
+use crate::heard::{copy_table, first_table, join_row, put_row, row_of};
 use crate::labels::is_applied;
 use crate::lateness::late;
 use crate::savepoint::{Savepoint, put_back};
@@ -52,15 +52,15 @@ pub struct Causal<S: Service> {
 }
 
 impl<S: Service> Causal<S> {
-    ghost use Rattle.std.specs.Prelude.{◌≡◌, ◌+◌, ◌<◌, ◌^◌, find, length, IfSome, IfOk, OnOk, OnErr};
-    ghost use Rattle.lr_causal.specs.Causal.{AgainHasParts, IsGossip};
-    ghost use Rattle.lr_causal.specs.Savepoint.{HasShapeOf, IsPointOf, Saved};
+    ghost use Rattle.std.specs.Prelude.{◌≡◌, ◌+◌, ◌<◌, ◌^◌, ℕ, find, length, IfSome, IfOk, OnOk, OnErr};
+    ghost use Rattle.lr_causal.specs.Causal.{AgainHasParts, IsAnswerOf, IsGossip, IsUpdateCall};
+    ghost use Rattle.lr_causal.specs.Savepoint.{CanUndo, HasShapeOf, IsPointOf, IsSame};
     ghost use Rattle.lr_base.specs.Config.{IsValid};
     ghost use Rattle.lr_base.specs.Kinds.{IsQuery, IsUpdate};
     ghost use Rattle.lr_base.specs.Rules.{CausalState, accepted, answer_of, applied, pruned, first_state, fresh_of, gossip_of, gossip_taken, held_more, known_of, new_count, same_cid, stamp_of, taken_before, update_of_call};
     ghost use Rattle.lr_base.specs.Stamps.{part};
     ghost use Rattle.lr_base.specs.Steps.{still_held};
-    ghost use Rattle.lr_causal.specs.State.{config_of, me_of, state_of};
+    ghost use Rattle.lr_causal.specs.State.{config_of, me_of, replica_of, state_of};
 
     /// A replica at which nothing has happened.
     pub fn new(alloc: Global, config: Config, me: u8) -> Result<Self, NoMemory>
@@ -256,17 +256,15 @@ impl<S: Service> Causal<S> {
 
     /// Takes a call as this replica's next update.
     pub fn accept(&mut self, call: &Call<S::Op>) -> Result<(Spot, Stamp), NoMemory>
-        requires parts { length call.now.prev ≡ (config_of self.old).replicas + 1 }
-        requires update { IsUpdate (S.Op.kind_of call.now.op) }
+        requires call { IsUpdateCall S.Op.kind_of ((config_of self.old).replicas + 1) call.now }
         requires not_worn { part (state_of self.old).rep_ts (me_of self.old) < 2 ^ 62 }
+        // the update that is logged, and what is answered of it
         ensures ok { OnOk result (state_of self.new ≡ accepted (me_of self.old) (state_of self.old) call.now) }
-        ensures spot { IfOk result (λ taken. taken.0 ≡ (update_of_call (me_of self.old) (state_of self.old) call.now).spot) }
-        ensures parts { IfOk result (λ taken. length taken.1 ≡ (config_of self.old).replicas + 1) }
-        ensures stamp { IfOk result (λ taken. taken.1 ≡ stamp_of (update_of_call (me_of self.old) (state_of self.old) call.now)) }
+        ensures answer { let u = update_of_call (me_of self.old) (state_of self.old) call.now in
+            IfOk result (IsAnswerOf ((config_of self.old).replicas + 1) u) }
+        // what stays, and can be undone
         ensures err { OnErr result (state_of self.new ≡ state_of self.old) }
-        ensures point { (p : Saved S) (before : CausalState S S.Op) → IsPointOf p (state_of self.old) before → IsPointOf p (state_of self.new) before }
-        ensures config { config_of self.new ≡ config_of self.old }
-        ensures me { me_of self.new ≡ me_of self.old }
+        ensures undo { (row : ℕ) → CanUndo row (replica_of self.old) (replica_of self.new) }
     {
         let number = self.rep_ts.part(self.me) + 1;
         let mut prev = call.prev.copy();
@@ -308,12 +306,12 @@ impl<S: Service> Causal<S> {
     pub fn take_gossip(&mut self, from: u8, gossip: &Gossip<S::Op>) -> Result<u64, NoMemory>
         requires from { from < (config_of self.old).replicas }
         requires gossip { IsGossip S.Op.kind_of ((config_of self.old).replicas + 1) gossip.now }
+        // what is taken
         ensures count { IfOk result (λ count. count ≡ new_count (state_of self.old) gossip.now) }
         ensures ok { OnOk result (state_of self.new ≡ gossip_taken from (state_of self.old) gossip.now) }
+        // what stays, and can be undone
         ensures err { OnErr result (state_of self.new ≡ state_of self.old) }
-        ensures point { (p : Saved S) (before : CausalState S S.Op) → IsPointOf p (state_of self.old) before → IsPointOf p (state_of self.new) before }
-        ensures config { config_of self.new ≡ config_of self.old }
-        ensures me { me_of self.new ≡ me_of self.old }
+        ensures undo { CanUndo from (replica_of self.old) (replica_of self.new) }
     {
         let alloc = self.log.allocator();
         let updates = new_updates(alloc, gossip.updates.as_slice(), &self.rep_ts)?;
@@ -330,38 +328,42 @@ impl<S: Service> Causal<S> {
     pub fn settle(&mut self) -> Result<(), NoMemory>
         ensures ok { OnOk result (state_of self.new ≡ pruned (config_of self.old).replicas (applied S.meaning (state_of self.old))) }
         ensures err { OnErr result (state_of self.new ≡ state_of self.old) }
-        ensures config { config_of self.new ≡ config_of self.old }
-        ensures me { me_of self.new ≡ me_of self.old }
+        ensures same { IsSame (replica_of self.old) (replica_of self.new) }
     {
-        let mut point = self.save()?;
+        let mut point = self.save(self.me);
         self.apply(&mut point)?;
         self.prune();
         Ok(())
     }
 
-    /// What is needed to undo what comes next: stamps and lengths, no value, no item and no call.
-    pub fn save(&self) -> Result<Savepoint<S>, NoMemory>
-        ensures { IfOk result (λ p. IsPointOf p (state_of self.now) (state_of self.now)) }
+    /// What is needed to undo what comes next: stamps and lengths, no value, no item, no call, and of what others were
+    /// heard to have received this replica's row alone. It takes no memory.
+    pub fn save(&self, heard: u8) -> Savepoint<S>
+        requires { heard < (config_of self.now).replicas }
+        ensures point { IsPointOf result (state_of self.now) (state_of self.now) }
+        ensures heard { result.heard ≡ heard }
     {
-        let table = copy_table(self.table.as_slice(), self.log.allocator())?;
-        Ok(Savepoint {
+        Savepoint {
             rep_ts: self.rep_ts.copy(),
             top: self.top,
-            table,
+            heard,
+            row: row_of(self.table.as_slice(), heard),
             calls: self.calls.len(),
             held: self.held.len(),
             applied: None,
-        })
+        }
     }
 
-    /// Applies all that is ready. Where something is, the value of before goes into the savepoint, unless it has one already; else it takes no memory.
+    /// Applies all that is ready. Where something is, the value of before goes into the savepoint, unless it has one
+    /// already; else it takes no memory.
     pub fn apply(&mut self, point: &mut Savepoint<S>) -> Result<(), NoMemory>
         ensures ok { OnOk result (state_of self.new ≡ applied S.meaning (state_of self.old)) }
+        // what stays, and can be undone
         ensures err { OnErr result (state_of self.new ≡ state_of self.old) }
         ensures err_point { OnErr result (point.new ≡ point.old) }
-        ensures point { (before : CausalState S S.Op) → IsPointOf point.old (state_of self.old) before → IsPointOf point.new (state_of self.new) before }
-        ensures config { config_of self.new ≡ config_of self.old }
-        ensures me { me_of self.new ≡ me_of self.old }
+        ensures point { (before : CausalState S S.Op) → IsPointOf point.old (state_of self.old) before
+            → IsPointOf point.new (state_of self.new) before }
+        ensures same { IsSame (replica_of self.old) (replica_of self.new) }
     {
         if self.value.is_settled(self.log.updates()) {
             return Ok(());
@@ -375,20 +377,19 @@ impl<S: Service> Causal<S> {
     /// Drops what is known everywhere. It takes no memory, and no savepoint undoes it.
     pub fn prune(&mut self)
         ensures state { state_of self.new ≡ pruned (config_of self.old).replicas (state_of self.old) }
-        ensures config { config_of self.new ≡ config_of self.old }
-        ensures me { me_of self.new ≡ me_of self.old }
+        ensures same { IsSame (replica_of self.old) (replica_of self.new) }
     {
         if self.config.replicas == 1 {
             self.log.clear_updates();
         }
     }
 
-    /// Gives back the state in which the savepoint was made, where only `accept`, `take_gossip`, `hold` and `apply` have changed it since. It takes no memory.
+    /// Gives back the state in which the savepoint was made, where only `accept`, `take_gossip` of the replica whose row it
+    /// has, `hold` and `apply` have changed it since. It takes no memory.
     pub fn restore(&mut self, point: Savepoint<S>)
         requires { HasShapeOf point (state_of self.old) }
         ensures state { (before : CausalState S S.Op) → IsPointOf point (state_of self.old) before → state_of self.new ≡ before }
-        ensures config { config_of self.new ≡ config_of self.old }
-        ensures me { me_of self.new ≡ me_of self.old }
+        ensures same { IsSame (replica_of self.old) (replica_of self.new) }
     {
         self.log.drop_new(&point.rep_ts);
         self.calls.cut(point.calls);
@@ -396,14 +397,15 @@ impl<S: Service> Causal<S> {
         put_back(&mut self.value, point.applied);
         self.rep_ts = point.rep_ts;
         self.top = point.top;
-        self.table = point.table;
+        put_row(&mut self.table, point.heard, point.row);
     }
 
     /// What a query with this label is answered, or nothing while something of its label isn't applied.
     pub fn read(&self, label: &Stamp, op: &S::Op) -> Result<Option<Text>, NoMemory>
         requires parts { length label.now ≡ (config_of self.now).replicas + 1 }
         requires query { IsQuery (S.Op.kind_of op.now) }
-        ensures { IfOk result (λ answer. answer ≡ answer_of S.meaning (state_of self.now).value (state_of self.now).val_ts label.now op.now) }
+        ensures { let state = state_of self.now in
+            IfOk result (λ answer. answer ≡ answer_of S.meaning state.value state.val_ts label.now op.now) }
     {
         self.value.read(label, op)
     }
@@ -412,9 +414,7 @@ impl<S: Service> Causal<S> {
     pub fn hold(&mut self, call: &Call<S::Op>) -> Result<(), NoMemory>
         ensures ok { OnOk result (state_of self.new ≡ held_more (state_of self.old) call.now) }
         ensures err { OnErr result (state_of self.new ≡ state_of self.old) }
-        ensures point { (p : Saved S) (before : CausalState S S.Op) → IsPointOf p (state_of self.old) before → IsPointOf p (state_of self.new) before }
-        ensures config { config_of self.new ≡ config_of self.old }
-        ensures me { me_of self.new ≡ me_of self.old }
+        ensures undo { (row : ℕ) → CanUndo row (replica_of self.old) (replica_of self.new) }
     {
         let copied = call.copy()?;
         self.held.push(copied)?;
@@ -424,8 +424,7 @@ impl<S: Service> Causal<S> {
     /// Drops the held queries whose label is applied. It takes no memory, and no savepoint undoes it.
     pub fn drop_answered(&mut self)
         ensures state { state_of self.new ≡ still_held (state_of self.old) }
-        ensures config { config_of self.new ≡ config_of self.old }
-        ensures me { me_of self.new ≡ me_of self.old }
+        ensures same { IsSame (replica_of self.old) (replica_of self.new) }
     {
         let val_ts = self.value.val_ts();
         self.held.retain(|call| !is_applied(&call.prev, val_ts));

@@ -17,6 +17,25 @@ pub fn join_row(table: &mut Vec<Stamp>, at: u8, stamp: &Stamp)
     table[at as usize].join(stamp);
 }
 
+/// A stamp equal to the one at an index.
+pub fn row_of(table: &[Stamp], at: u8) -> Stamp
+    requires { at < length table.now }
+    ensures { result ≡ get_or table.now at [] }
+{
+    table[at as usize].copy()
+}
+
+/// Puts a stamp at an index.
+pub fn put_row(table: &mut Vec<Stamp>, at: u8, row: Stamp)
+    requires within { at < length table.old.items }
+    requires parts { AllStamps (length row) table.old.items }
+    ensures put { table.new.items ≡ set table.old.items at row }
+    ensures rows { length table.new.items ≡ length table.old.items }
+    ensures parts { AllStamps (length row) table.new.items }
+{
+    table[at as usize] = row;
+}
+
 /// A stamp of zeros for each replica.
 pub fn first_table(alloc: Global, replicas: u8, parts: u8) -> Result<Vec<Stamp>, NoMemory>
     requires some { 2 ≤ parts }

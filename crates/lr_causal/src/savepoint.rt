@@ -12,7 +12,9 @@ use std::marker::Model;
 pub struct Savepoint<S: Service> {
     pub(crate) rep_ts: Stamp,
     pub(crate) top: u64,
-    pub(crate) table: Vec<Stamp>,
+    // A replica, and what it was last heard to have received.
+    pub(crate) heard: u8,
+    pub(crate) row: Stamp,
     // How many calls were executed.
     pub(crate) calls: usize,
     // How many queries were held.
@@ -26,7 +28,7 @@ impl<S: Service> Model for Savepoint<S> {
 
     ghost Value = { Saved S };
 
-    ghost view = { λ it. record { rep_ts = it.rep_ts; top = it.top; table = it.table.items; calls = it.calls; held = it.held; applied = it.applied } };
+    ghost view = { λ it. record { rep_ts = it.rep_ts; top = it.top; heard = it.heard; row = it.row; calls = it.calls; held = it.held; applied = it.applied } };
 }
 
 impl<S: Service> Savepoint<S> {

@@ -1,9 +1,8 @@
 //! The calls of a replica's causal part, with states worked out by hand.
-ghost use Rattle.std.specs.Prelude.{◌+◌, IfOk};
-ghost use Rattle.lr_base.specs.Rules.{CausalState};
+ghost use Rattle.std.specs.Prelude.{◌+◌, ℕ, IfOk};
 ghost use Rattle.lr_causal.specs.Causal.{IsGossip};
-ghost use Rattle.lr_causal.specs.Savepoint.{IsPointOf, Saved};
-ghost use Rattle.lr_causal.specs.State.{config_of, state_of};
+ghost use Rattle.lr_causal.specs.Savepoint.{CanUndo};
+ghost use Rattle.lr_causal.specs.State.{config_of, replica_of};
 
 use crate::{Causal, late};
 use lr_base::lr_service::{Kind, Operation, Service};
@@ -61,7 +60,7 @@ fn accept(
     label: &[u64; 4],
     op: &str,
 ) -> Result<(Spot, Stamp), Fail>
-    ensures { (p : Saved Tally) (before : CausalState Tally TallyOp) → IsPointOf p (state_of replica.old) before → IsPointOf p (state_of replica.new) before }
+    ensures { (row : ℕ) → CanUndo row (replica_of replica.old) (replica_of replica.new) }
 {
     let op = Tally::read_op(alloc, op.as_bytes())?;
     let prev = stamp(rt, replica.config().replicas, label);
@@ -104,7 +103,7 @@ fn hold(
     seq: u64,
     label: &[u64; 4],
 ) -> Result<(), Fail>
-    ensures { (p : Saved Tally) (before : CausalState Tally TallyOp) → IsPointOf p (state_of replica.old) before → IsPointOf p (state_of replica.new) before }
+    ensures { (row : ℕ) → CanUndo row (replica_of replica.old) (replica_of replica.new) }
 {
     let call = Call {
         cid: cid(seq),
@@ -600,7 +599,7 @@ fn check_first(rt: &impl Abort, alloc: Global, replica: &Causal<Tally>) -> Resul
 
 // Accepts an update, holds a query and applies the update, and undoes all three.
 fn accept_undone(rt: &impl Abort, alloc: Global, replica: &mut Causal<Tally>) -> Result<(), Fail> {
-    let mut point = replica.save()?;
+    let mut point = replica.save(replica.me());
     let (spot, _stamp) = accept(rt, alloc, replica, 2, &[0; 4], "add x 4")?;
     assert!(rt;
         spot == Spot {
@@ -625,7 +624,7 @@ fn gossip_undone(
 ) -> Result<(), Fail> {
     assert!(rt; from.config() == replica.config());
     let gossip = from.make_gossip()?;
-    let mut point = replica.save()?;
+    let mut point = replica.save(from.me());
     assert_eq!(rt; replica.take_gossip(from.me(), &gossip)?, 1);
     replica.apply(&mut point)?;
     let answer = read_x(rt, alloc, replica, &[1, 0, 0, 0])?.ok_or("no answer")?;

@@ -1,4 +1,7 @@
+use Rattle.std.proofs.Common.{◌∙◌}
 use Rattle.lr_causal.proofs.tests.gossip_undone.Goals as goal
 
 pub restore-requires : goal.restore-requires
-restore-requires g c = (c.apply.ensures.point _ (c.take_gossip.ensures.point _ _ c.in_ok-point.ensures)).shape
+restore-requires g c =
+    let taken = c.take_gossip.ensures.undo.points c.save-point.result _ (search rules) c.save-point.ensures.point in
+    (c.apply.ensures.point _ taken).shape

@@ -9,10 +9,10 @@ use Rattle.lr_causal.proofs.causal.Causal.accept.Goals as goal
 
 pub invariant_of-self-2-clause-logged : goal.invariant_of-self-2-clause-logged
 invariant_of-self-2-clause-logged g c =
-    let prev : length c.join.new.self ≡ c.args.self.now.config.replicas + 1 = c.join.ensures.parts ∙ ap length c.copy-prev.ensures ∙ c.requires.parts in
+    let prev : length c.join.new.self ≡ c.args.self.now.config.replicas + 1 = c.join.ensures.parts ∙ ap length c.copy-prev.ensures ∙ c.requires.call.label in
     let own : c.args.self.now.me < c.args.self.now.config.replicas = c.args.self.now.own_place in
     let place : c.args.self.now.me < c.args.self.now.config.replicas + 1 = omega arith in
-    let update : IsUpdate (g.S.Op.Operation.kind_of c.in_ok-copy.field-0) = rw c.in_ok-copy.ensures c.requires.update in
+    let update : IsUpdate (g.S.Op.Operation.kind_of c.in_ok-copy.field-0) = rw c.in_ok-copy.ensures c.requires.call.update in
     AllLogged-more g.S.Op.Operation.kind_of _ c.args.self.now.log c.add_update.new.self _ c.in-Ok.ensures.ok
     (record { prev = prev; place = place; update = update })
     c.args.self.now.logged
@@ -34,6 +34,10 @@ invariant_of-self-in_default-clause-updates_received g c = AllReceived-along _ _
 pub invariant_of-self-in_default-clause-acks_received : goal.invariant_of-self-in_default-clause-acks_received
 invariant_of-self-in_default-clause-acks_received g c = AllAcksReceived-along _ _ c.args.self.now.log.acks c.add_update.new.self.acks refl (ap (λ (log : Items _). log.acks) c.in_default.ensures.err) c.args.self.now.acks_received
 
-pub returns-clause-point : goal.returns-clause-point
-returns-clause-point g c p before point =
-    point-logged p _ (state_of c.args.self.now) before c.set_part.new.self c.add_update.new.self (omega arith) (omega arith) c.set_part.ensures.set c.in-Ok.ensures.ok point
+pub returns-clause-undo : goal.returns-clause-undo
+returns-clause-undo g c row = record {
+  same = record { setting = refl; number = refl };
+  points = λ p before heard point.
+      point-logged p _ (state_of c.args.self.now) before c.set_part.new.self c.add_update.new.self (omega arith) (omega arith)
+      c.set_part.ensures.set c.in-Ok.ensures.ok point;
+}

@@ -1,8 +1,8 @@
-use Rattle.std.proofs.Common.{ap, refl}
+use Rattle.std.proofs.Common.{◌∙◌, ap, length, refl, sym}
 use Rattle.lr_causal.specs.Savepoint.{Saved}
 use Rattle.lr_causal.proofs.Facts.{AllLogged-filter}
 use Rattle.lr_causal.proofs.Received.{AllAcksReceived-stays, AllReceived-stays}
-use Rattle.lr_causal.proofs.StampRows.{AllStamps-along, AllStamps-count}
+use Rattle.lr_causal.proofs.StampRows.{AllStamps-count}
 use Rattle.lr_causal.proofs.Tables.{AllKnown-take}
 use Rattle.lr_causal.proofs.causal.Causal.restore.Goals as goal
 
@@ -21,7 +21,12 @@ pub invariant_of-self-clause-logged : goal.invariant_of-self-clause-logged
 invariant_of-self-clause-logged g c =
     AllLogged-filter g.S.Op.Operation.kind_of _ _ c.args.self.now.log.updates c.drop_new.new.self.updates c.drop_new.ensures.updates c.args.self.now.logged
 
+pub put_row-requires-clause-parts : goal.put_row-requires-clause-parts
+put_row-requires-clause-parts g c =
+    AllStamps-count _ _ c.args.self.now.table.items
+    (sym (ap (λ (p : Saved _). length p.row) c.point.view_is ∙ c.requires.row_parts ∙ c.args.self.now.rep_parts)) c.args.self.now.row_parts
+
 pub invariant_of-self-clause-row_parts : goal.invariant_of-self-clause-row_parts
 invariant_of-self-clause-row_parts g c =
-    AllStamps-along _ c.args.point.table c.point.inside.table.items (ap (λ (p : Saved _). p.table) c.point.view_is)
-    (AllStamps-count _ _ c.args.point.table c.args.self.now.rep_parts c.requires.row_parts)
+    AllStamps-count _ _ c.put_row.new.table.items
+    (ap (λ (p : Saved _). length p.row) c.point.view_is ∙ c.requires.row_parts ∙ c.args.self.now.rep_parts) c.put_row.ensures.parts

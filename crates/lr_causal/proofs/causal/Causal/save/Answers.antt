@@ -1,11 +1,15 @@
-use Rattle.std.proofs.Common.{◌∙◌, arith, sym}
+use Rattle.std.proofs.Common.{◌≡◌, ◌∙◌, ◌<◌, [], ap, get_or, length, refl, sym, arith}
+use Rattle.std.proofs.lemmas.Option.{slice_get-get_or}
 use Rattle.lr_causal.specs.State.{state_of}
 use Rattle.lr_causal.proofs.Points.{point-saved}
-use Rattle.lr_causal.proofs.StampRows.{AllStamps-count}
 use Rattle.lr_causal.proofs.causal.Causal.save.Goals as goal
 
-pub returns : goal.returns
-returns g c =
-    point-saved c.copy.result c.in_ok-table.table.items c.len.result c.len-2.result (state_of c.args.self.now)
-    c.copy.ensures (c.in_ok-table.ensures ∙ c.as_slice.ensures.value) c.len.ensures (omega arith)
-    c.args.self.now.updates_received c.args.self.now.acks_received (AllStamps-count _ _ c.args.self.now.table.items (sym c.args.self.now.rep_parts) c.args.self.now.row_parts)
+pub returns-clause-point : goal.returns-clause-point
+returns-clause-point g c =
+    let it = c.args.self.now in
+    let table = it.table.items in
+    let within : c.args.heard < length table = rw it.rows c.requires in
+    let parts : length (get_or table c.args.heard []) ≡ length it.rep_ts =
+    it.row_parts c.args.heard (get_or table c.args.heard []) (slice_get-get_or table c.args.heard [] within) ∙ sym it.rep_parts in
+    point-saved c.copy.result c.row_of.result c.args.heard c.len.result c.len-2.result (state_of it)
+    c.copy.ensures (c.row_of.ensures ∙ ap (λ rows. get_or rows c.args.heard []) c.as_slice.ensures.value) c.len.ensures (omega arith) within parts it.updates_received it.acks_received

@@ -41,7 +41,11 @@ invariant_of-self-clause-updates_received g c = AllReceived-along _ _ c.args.sel
 pub invariant_of-self-clause-acks_received : goal.invariant_of-self-clause-acks_received
 invariant_of-self-clause-acks_received g c = AllAcksReceived-along _ _ c.args.self.now.log.acks c.add_all.new.self.acks refl (ap (λ (log : Items _). log.acks) c.in_default.ensures.err) c.args.self.now.acks_received
 
-pub returns-clause-point : goal.returns-clause-point
-returns-clause-point g c p before point =
-    point-same p (gossip_taken c.args.from (state_of c.args.self.now) c.args.gossip.now) _ before (search rules)
-    (point-taken p c.args.from (state_of c.args.self.now) before c.args.gossip.now (c.requires.gossip.rep_parts ∙ sym c.args.self.now.rep_parts) point)
+pub returns-clause-undo : goal.returns-clause-undo
+returns-clause-undo g c = record {
+  same = record { setting = refl; number = refl };
+  points = λ p before heard point.
+      point-same p (gossip_taken c.args.from (state_of c.args.self.now) c.args.gossip.now) _ before (search rules)
+      (point-taken p c.args.from (state_of c.args.self.now) before c.args.gossip.now heard
+      (c.requires.gossip.rep_parts ∙ sym c.args.self.now.rep_parts) point);
+}
