@@ -1,6 +1,6 @@
 //! How answers and states are printed.
 use crate::faults::Fault;
-use lr_base::{Fresh, Spot, Stamp, Text};
+use lr_base::{Cid, Fresh, Spot, Stamp, Text};
 use lr_causal::Causal;
 use std::alloc::{AllocError, Global};
 use std::str;
@@ -64,18 +64,25 @@ pub fn put_fresh(fresh: &Fresh, out: &mut String) -> Result<(), AllocError> {
 
 /// Adds a replica's stamps and counts behind `out`.
 pub fn put_stamps(replica: &Causal<Tally>, out: &mut String) -> Result<(), AllocError> {
-    out.push_str("received ")?;
-    put_stamp(replica.rep_ts(), out)?;
-    out.push_str(", applied ")?;
-    put_stamp(replica.val_ts(), out)?;
-    out.push_str(", ordered ")?;
-    put_stamp(replica.order_ts(), out)?;
-    out.push_str(", immediate ")?;
-    put_stamp(replica.imm_ts(), out)?;
+    put_named("received", replica.rep_ts(), out)?;
+    put_named("applied", replica.val_ts(), out)?;
+    put_named("ordered", replica.order_ts(), out)?;
+    put_named("immediate", replica.imm_ts(), out)?;
+    put_counts(replica, out)
+}
+
+fn put_named(name: &str, stamp: &Stamp, out: &mut String) -> Result<(), AllocError> {
+    out.push_str(name)?;
+    out.push_str(" ")?;
+    put_stamp(stamp, out)?;
+    out.push_str(", ")
+}
+
+fn put_counts(replica: &Causal<Tally>, out: &mut String) -> Result<(), AllocError> {
     let me = replica.me();
     let top = replica.top();
     let clock = replica.clock();
-    write!(out, ", me {me}, top {top}, clock {clock}")
+    write!(out, "me {me}, top {top}, clock {clock}")
 }
 
 /// Adds what each replica was last heard to have received behind `out`.
@@ -87,13 +94,17 @@ pub fn put_heard(replica: &Causal<Tally>, out: &mut String) -> Result<(), AllocE
     Ok(())
 }
 
+fn put_seq(cid: Cid, out: &mut String) -> Result<(), AllocError> {
+    put_comma(out)?;
+    let seq = cid.seq;
+    write!(out, "{seq}")
+}
+
 /// Adds the numbers of the executed calls behind `out`, in the order of execution.
 pub fn put_executed(alloc: Global, replica: &Causal<Tally>, out: &mut String) -> Result<(), Fault> {
     let cids = replica.calls().cids(alloc)?;
     for cid in &cids {
-        put_comma(out)?;
-        let seq = cid.seq;
-        write!(out, "{seq}")?;
+        put_seq(*cid, out)?;
     }
     Ok(())
 }
@@ -101,9 +112,7 @@ pub fn put_executed(alloc: Global, replica: &Causal<Tally>, out: &mut String) ->
 /// Adds the numbers of the held queries behind `out`, in the order of arrival.
 pub fn put_held(replica: &Causal<Tally>, out: &mut String) -> Result<(), AllocError> {
     for call in replica.held() {
-        put_comma(out)?;
-        let seq = call.cid.seq;
-        write!(out, "{seq}")?;
+        put_seq(call.cid, out)?;
     }
     Ok(())
 }
@@ -111,22 +120,24 @@ pub fn put_held(replica: &Causal<Tally>, out: &mut String) -> Result<(), AllocEr
 /// Adds the logged updates behind `out`, each with its spot, its call and its label.
 pub fn put_updates(replica: &Causal<Tally>, out: &mut String) -> Result<(), AllocError> {
     for update in replica.log().updates() {
-        put_comma(out)?;
-        put_spot(update.spot, out)?;
-        let seq = update.cid.seq;
-        write!(out, " of {seq} after ")?;
+        put_item(update.spot, update.cid, out)?;
+        out.push_str(" after ")?;
         put_stamp(&update.prev, out)?;
     }
     Ok(())
 }
 
+fn put_item(spot: Spot, cid: Cid, out: &mut String) -> Result<(), AllocError> {
+    put_comma(out)?;
+    put_spot(spot, out)?;
+    let seq = cid.seq;
+    write!(out, " of {seq}")
+}
+
 /// Adds the logged acknowledgements behind `out`, each with its spot and its call.
 pub fn put_acks(replica: &Causal<Tally>, out: &mut String) -> Result<(), AllocError> {
     for ack in replica.log().acks() {
-        put_comma(out)?;
-        put_spot(ack.spot, out)?;
-        let seq = ack.cid.seq;
-        write!(out, " of {seq}")?;
+        put_item(ack.spot, ack.cid, out)?;
     }
     Ok(())
 }

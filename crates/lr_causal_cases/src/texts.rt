@@ -9,7 +9,10 @@ use svc_tally::{Tally, TallyOp};
 
 /// The number that is written so.
 pub fn number_of(text: &str) -> Result<u64, Fault> {
-    read_number(text.as_bytes()).ok_or(Fault::Unread)
+    match read_number(text.as_bytes()) {
+        Some(number) => Ok(number),
+        None => Err(Fault::Unread),
+    }
 }
 
 /// The number of a replica that is written so.
