@@ -14,25 +14,15 @@ use lr_causal::{Causal, late};
 use std::alloc::Global;
 use svc_tally::Tally;
 
-/// Does a command on these replicas, and tells what it answers.
-pub fn answer_of(
+/// Does a command on these replicas, and adds what it answers behind `out`.
+pub fn answer(
     alloc: Global,
     replicas: &mut Vec<Causal<Tally>>,
     line: &str,
-) -> Result<String, Fault> {
-    let words: Vec<&str> = line.split_whitespace().collect(alloc)?;
-    let mut out = String::new(alloc);
-    answer_words(alloc, replicas, words.as_slice(), &mut out)?;
-    Ok(out)
-}
-
-fn answer_words(
-    alloc: Global,
-    replicas: &mut Vec<Causal<Tally>>,
-    words: &[&str],
     out: &mut String,
 ) -> Result<(), Fault> {
-    match words {
+    let words: Vec<&str> = line.split_whitespace().collect(alloc)?;
+    match words.as_slice() {
         ["run", count] => begin(alloc, replicas, count),
         ["copy", at] => copy(replicas, at),
         ["late", times @ ..] => answer_late(times, out),

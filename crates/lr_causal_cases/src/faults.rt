@@ -2,10 +2,9 @@
 use lr_base::NoMemory;
 use lr_base::lr_service::OpFault;
 use std::alloc::{AllocError, AllocFailed};
-use std::fmt;
 
 /// What stands in place of a command's answer.
-#[derive(Clone, Copy, PartialEq, Eq)]
+#[derive(Clone, Copy)]
 pub enum Fault {
     /// The line is no command.
     Unread,
@@ -26,9 +25,10 @@ pub enum Fault {
     NoMemory,
 }
 
-impl fmt::Display for Fault {
-    fn fmt<W: fmt::Write>(&self, f: &mut fmt::Formatter<W>) -> fmt::Result {
-        let text = match self {
+impl Fault {
+    /// What is printed of it.
+    pub fn text(self) -> &'static str {
+        match self {
             Fault::Unread => "not a command",
             Fault::NoReplica => "no such replica",
             Fault::BadCount => "no such run",
@@ -38,8 +38,7 @@ impl fmt::Display for Fault {
             Fault::Unreceived => "an acknowledgement is past the stamp",
             Fault::TwoRuns => "replicas of two runs",
             Fault::NoMemory => "no memory",
-        };
-        write!(f, "{text}")
+        }
     }
 }
 
