@@ -8,7 +8,7 @@ use crate::names::Actor;
 pub enum Act<O: Drop> {
     /// A line is printed.
     Say(Outcome),
-    /// A message is sent. It gets its number when it is posted.
+    /// A message is sent. Its number comes behind those of the messages that were sent before.
     Send { to: Actor, message: Message<O> },
 }
 

@@ -58,7 +58,7 @@ pub record IsSame {Value Op : Type 0} (before after : ReplicaState Value Op) : T
   pub setting : after.config ≡ before.config
   pub number : after.me ≡ before.me
 
--- whatever came of a part of a step, it is the same replica, and a savepoint with this row gives back what it did before
+-- whatever came of a part of a step, it is the same replica, and a savepoint with this row gives back what it did
 pub record CanUndo {Value Op : Type 0} (row : ℕ) (before after : ReplicaState Value Op) : Type 0 where
   pub same : IsSame before after
   pub points : (p : Saved Value) (start : CausalState Value Op) → p.heard ≡ row

@@ -343,8 +343,8 @@ impl<S: Service> Causal<S> {
         Ok(())
     }
 
-    /// What is needed to undo what comes next: stamps and lengths, no value, no item, no call, and of what others were
-    /// heard to have received this replica's row alone. It takes no memory.
+    /// What is needed to undo what comes next: a stamp, lengths, no value, no item, no call, and of what replicas were
+    /// heard to have received the one row of `heard`. It takes no memory.
     pub fn save(&self, heard: u8) -> Savepoint<S>
         requires { heard < (config_of self.now).replicas }
         ensures point { IsPointOf result (state_of self.now) (state_of self.now) }
@@ -391,8 +391,8 @@ impl<S: Service> Causal<S> {
         }
     }
 
-    /// Gives back the state in which the savepoint was made, where only `accept`, `take_gossip` of the replica whose row
-    /// it has, `hold` and `apply` have changed it since. It takes no memory.
+    /// Gives back the state in which the savepoint was made, where only `accept`, `take_gossip` of the replica whose
+    /// row it has, `hold` and `apply` have changed it since. It takes no memory.
     pub fn restore(&mut self, point: Savepoint<S>)
         requires { HasShapeOf point (state_of self.old) }
         ensures state { (before : CausalState S S.Op) → IsPointOf point (state_of self.old) before

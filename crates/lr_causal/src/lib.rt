@@ -14,6 +14,3 @@ pub use calls::CallTable;
 pub use causal::Causal;
 pub use lateness::late;
 pub use savepoint::Savepoint;
-
-#[cfg(test)]
-mod tests;

@@ -7,8 +7,8 @@ use lr_base::lr_service::Service;
 use lr_value::Value;
 use std::marker::Model;
 
-/// A replica's state before a step, as far as a step may overwrite it: its stamps, how long its lists were, and its value
-/// once that is changed.
+/// A replica's state before a step, as far as a step may overwrite it: what it had received, its last number, one row
+/// of what was heard, how long its lists were, and its value once that is changed.
 #[derive(Drop)]
 pub struct Savepoint<S: Service> {
     pub(crate) rep_ts: Stamp,
@@ -30,8 +30,13 @@ impl<S: Service> Model for Savepoint<S> {
     ghost Value = { Saved S };
 
     ghost view = { λ it. record {
-        rep_ts = it.rep_ts; top = it.top; heard = it.heard; row = it.row;
-        calls = it.calls; held = it.held; applied = it.applied
+      rep_ts = it.rep_ts;
+      top = it.top;
+      heard = it.heard;
+      row = it.row;
+      calls = it.calls;
+      held = it.held;
+      applied = it.applied;
     } };
 }
 

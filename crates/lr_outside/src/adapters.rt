@@ -5,7 +5,8 @@ use crate::sink::Sink;
 use crate::source::{Failed, Source};
 use std::io::{Read, Write};
 
-/// A source over a reader, whose failures it counts. It tells the bytes left where the reader does; standard input doesn't.
+/// A source over a reader, whose failures it counts. It tells the bytes left where the reader does; standard input
+/// doesn't.
 #[derive(Drop)]
 pub struct Reading<R> {
     inner: R,

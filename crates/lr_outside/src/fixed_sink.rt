@@ -10,7 +10,8 @@ use lr_base::NoMemory;
 use std::alloc::Global;
 use std::marker::Model;
 
-/// A sink that takes so many bytes in all, and then fails. Memory for them is taken when it is made, and a write needs none.
+/// A sink that takes so many bytes in all, and then fails. Memory for them is taken when it is made, and a write needs
+/// none.
 #[derive(Debug, Drop)]
 pub struct FixedSink {
     bytes: Vec<u8>,

@@ -11,8 +11,8 @@ use lr_base::Rows;
 use std::alloc::Global;
 use std::marker::Model;
 
-/// A sink that keeps what it takes in memory, and takes each piece whole. Its listed calls fail, and so does one that finds
-/// no memory. Calls are numbered from 1, failing ones too; a number stays at 2^64 - 1.
+/// A sink that keeps what it takes in memory, and takes each piece whole. Its listed calls fail, and so does one
+/// that finds no memory. Calls are numbered from 1, failing ones too; a number stays at 2^64 - 1.
 #[derive(Debug, Drop)]
 pub struct MemSink {
     bytes: Rows<u8>,

@@ -9,8 +9,8 @@ use crate::source::{Failed, Source};
 use lr_base::Rows;
 use std::marker::Model;
 
-/// A source over bytes in memory, whose listed calls fail. Calls are numbered from 1, failing ones too; a number stays at
-/// 2^64 - 1.
+/// A source over bytes in memory, whose listed calls fail. Calls are numbered from 1, failing ones too; a number
+/// stays at 2^64 - 1.
 #[derive(Debug, Drop)]
 pub struct MemSource {
     bytes: Rows<u8>,

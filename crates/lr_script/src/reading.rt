@@ -6,7 +6,8 @@ ghost use Rattle.lr_script.specs.declared.heading.Header.{Header};
 ghost use Rattle.lr_script.specs.declared.refusals.Cause.{Cause};
 ghost use Rattle.lr_script.specs.Faults.{IsBadHead, IsFaultAt, IsBadLine, IsHeadFault, IsLineFault};
 ghost use Rattle.lr_script.specs.Faults.{IsRefused, IsScriptFault};
-ghost use Rattle.lr_script.specs.Script.{AreEventsOf, Fits, IsNamed, IsSetUp, IsScript, HasHeader, line_of, events_text};
+ghost use Rattle.lr_script.specs.Script.{AreEventsOf, Fits, IsNamed, IsSetUp, IsScript, HasHeader};
+ghost use Rattle.lr_script.specs.Script.{line_of, events_text};
 ghost use Rattle.lr_script.specs.Texts.{event_text, header_text};
 
 use crate::event_lines::{EventFault, read_event};

@@ -15,8 +15,8 @@ pub record IsFree (front : FrontState) : Type 0 where
   pub closed : front.open_call ≡ None
   pub not_worn : front.calls ≢ last_number
 
--- a free front end makes its next call, unless there is no memory; else it says what holds it up, and its reading counts
--- all the same
+-- a free front end makes its next call, unless there is no memory; else it says what holds it up, and its reading
+-- counts all the same
 abbrev pub HasCalled : {Op : Type 0} → Kind → ℕ → Op → FrontState → FrontState → Result (Message Op) CallFault → Type 0
 HasCalled kind reading op before now (Ok message) =
     IsFree before × (now ≡ called reading before) × (message ≡ message_of kind before reading op)

@@ -44,7 +44,11 @@ impl Model for Front {
     ghost Value = { FrontState };
 
     ghost view = { λ it. record {
-        client = it.client; clock = it.clock; label = it.label; calls = it.calls; open_call = it.open_call
+      client = it.client;
+      clock = it.clock;
+      label = it.label;
+      calls = it.calls;
+      open_call = it.open_call;
     } };
 
     ghost invariant = { λ it. it.calls ≤ last_number };

@@ -15,10 +15,11 @@ pub enum Order {
 /// Who makes a step, with what it takes to finish it or to undo it.
 #[derive(Drop)]
 pub enum Acting<S: Service> {
+    /// A line is all that comes of the event.
     Nobody,
     /// A front end, as it is after the step.
     AtFront { client: u32, front: Front },
-    /// A replica, with the state of before.
+    /// A replica, with what gives back its state of before.
     AtReplica { me: u8, point: Savepoint<S> },
 }
 

@@ -5,12 +5,15 @@ ghost use Rattle.lr_world.specs.Outboxes.{after_acts};
 use crate::outbox::Outbox;
 use crate::task::Task;
 use lr_base::lr_service::{Operation, Service};
-use lr_base::{Act, Actor, Call, Cid, Config, Fresh, Gossip, HELD_ROOM, LAST_NUMBER, Message, NoMemory, Outcome, Refusal, Rows, Spot, Stamp, StateLine, Text};
+use lr_base::{
+    Act, Actor, Call, Cid, Config, Fresh, Gossip, HELD_ROOM, LAST_NUMBER, Message, NoMemory,
+    Outcome, Refusal, Rows, Spot, Stamp, StateLine, Text,
+};
 use lr_causal::{Causal, Savepoint};
 use std::alloc::Global;
 use std::marker::Model;
 
-/// A replica: its causal part, and what is asked of it.
+/// A replica: its causal part, whose held queries are of its run.
 #[derive(Drop)]
 pub struct Replica<S: Service> {
     causal: Causal<S>,

@@ -1,4 +1,4 @@
-//! A run: all actors, and every message that was sent; one event is made by one of them.
+//! A run: all actors, and every message that was sent; one event is made by one of them at the most.
 ghost use Rattle.std.specs.Prelude.{◌≡◌, ◌<◌, Some, length, set, slice_get, vec_len, IfOk};
 ghost use Rattle.lr_base.specs.Config.{IsValid};
 ghost use Rattle.lr_base.specs.Replicas.{AllReplicas};
@@ -76,7 +76,7 @@ impl<S: Service> Run<S> {
         self.posted.len() as u64
     }
 
-    /// What is printed of the event that was made last.
+    /// What is printed of the event that was made last; after one for which there was no memory it says nothing.
     pub fn lines(&self) -> &[Outcome]
         ensures { result.now ≡ lines_of self.now }
     {

@@ -33,7 +33,7 @@ commutes : (v : Counts) (a b : TallyOp) → IsUpdate (tally_kind a) → IsUpdate
     → tally_apply (tally_apply v a) b ≡ tally_apply (tally_apply v b) a
 commutes v (Add m j) (Add n k) first second =
     changes-commute v m n (λ count. (unwrap_or count 0 + j) % 2 ^ 64) (λ count. (unwrap_or count 0 + k) % 2 ^ 64)
-        (λ count. sums (unwrap_or count 0) j k)
+    (λ count. sums (unwrap_or count 0) j k)
 commutes v (Read m) b first second = let no : true ≡ false = first in cc
 commutes v (Add m j) (Read n) first second = let no : true ≡ false = second in cc
 
@@ -95,7 +95,7 @@ stays-of : (v : Counts) (op : TallyOp) → tally_format.is_value v ≡ true → 
     → tally_format.is_value (tally_apply v op) ≡ true
 stays-of v (Add name amount) value is =
     table-insert number_format v name ((count_of v name + amount) % 2 ^ 64) value (amount-fits name amount is).0
-        (lt-ltb _ (2 ^ 64) (mod-lt (count_of v name + amount) (omega arith)))
+    (lt-ltb _ (2 ^ 64) (mod-lt (count_of v name + amount) (omega arith)))
 stays-of v (Read name) value is = value
 
 -- additions commute, each operation has one short text, and counters one spelling

@@ -1,6 +1,6 @@
 use Rattle.lr_causal.specs.Causal.{AllAcksReceived}
-use Rattle.lr_causal.proofs.tests.gossip_of_acks.Given as goal
+use Rattle.lr_causal_cases.proofs.steps.gossip_of_acks.Given as goal
 
 -- the stamp says of those so far that they were received
 abbrev pub invariant-loop-number : goal.invariant-loop-number
-invariant-loop-number g l = AllAcksReceived l.rep_ts l.acks
+invariant-loop-number l = AllAcksReceived l.rep_ts l.acks

@@ -1,0 +1,216 @@
+//! Commands, and what they answer.
+ghost use Rattle.std.specs.Prelude.{◌<◌, length, IfOk};
+
+use crate::faults::Fault;
+use crate::printed::{
+    put_accepted, put_acks, put_answer, put_executed, put_fresh, put_heard, put_held, put_stamps,
+    put_updates,
+};
+use crate::steps::{accept, hear, hear_acks, hold, read};
+use crate::texts::{cid, cut, number_of, small_number_of};
+use crate::undone::{accept_undone, hear_undone};
+use lr_base::Config;
+use lr_causal::{Causal, late};
+use std::alloc::Global;
+use svc_tally::Tally;
+
+/// Does a command on these replicas, and adds what it answers behind `out`.
+pub fn answer(
+    alloc: Global,
+    replicas: &mut Vec<Causal<Tally>>,
+    line: &str,
+    out: &mut String,
+) -> Result<(), Fault> {
+    let words: Vec<&str> = line.split_whitespace().collect(alloc)?;
+    match words.as_slice() {
+        ["run", count] => begin(alloc, replicas, count),
+        ["copy", at] => copy(replicas, at),
+        ["late", times @ ..] => answer_late(times, out),
+        [verb, at, words @ ..] => answer_at(alloc, replicas, at, verb, words, out),
+        _ => Err(Fault::Unread),
+    }
+}
+
+// Begins a run of so many replicas, in place of the one before.
+fn begin(alloc: Global, replicas: &mut Vec<Causal<Tally>>, count: &str) -> Result<(), Fault> {
+    let config = Config {
+        replicas: small_number_of(count)?,
+        clients: 1,
+        delta: 10,
+    };
+    if !config.is_valid() {
+        return Err(Fault::BadCount);
+    }
+    replicas.clear();
+    for me in 0..config.replicas {
+        replicas.push(Causal::new(alloc, config, me)?)?;
+    }
+    Ok(())
+}
+
+// The index of a replica: its number in the run, or that of its copy behind them.
+fn index_of(replicas: &[Causal<Tally>], text: &str) -> Result<usize, Fault>
+    ensures { IfOk result (λ at. at < length replicas.now) }
+{
+    let at = small_number_of(text)? as usize;
+    if at < replicas.len() {
+        Ok(at)
+    } else {
+        Err(Fault::NoReplica)
+    }
+}
+
+fn copy_of(replicas: &[Causal<Tally>], text: &str) -> Result<Causal<Tally>, Fault> {
+    let at = index_of(replicas, text)?;
+    Ok(replicas[at].copy()?)
+}
+
+// Puts a copy of a replica behind the others.
+fn copy(replicas: &mut Vec<Causal<Tally>>, at: &str) -> Result<(), Fault> {
+    let copied = copy_of(replicas.as_slice(), at)?;
+    replicas.push(copied)?;
+    Ok(())
+}
+
+// A time, how late a message may be, and a clock.
+fn answer_late(times: &[&str], out: &mut String) -> Result<(), Fault> {
+    let [time, delta, clock] = times else {
+        return Err(Fault::Unread);
+    };
+    let is_late = late(number_of(time)?, number_of(delta)?, number_of(clock)?);
+    Ok(write!(out, "{is_late}")?)
+}
+
+// What one replica is told by another, or else what it does alone.
+fn answer_at(
+    alloc: Global,
+    replicas: &mut Vec<Causal<Tally>>,
+    at: &str,
+    verb: &str,
+    words: &[&str],
+    out: &mut String,
+) -> Result<(), Fault> {
+    let at = index_of(replicas.as_slice(), at)?;
+    match words {
+        [from, asked @ ..] if verb == "hear" => {
+            let from = copy_of(replicas.as_slice(), from)?;
+            answer_heard(alloc, &mut replicas[at], &from, asked, out)
+        }
+        _ => answer_one(alloc, &mut replicas[at], verb, words, out),
+    }
+}
+
+// Gossip: taken; or, with a query behind it, taken, applied and undone.
+fn answer_heard(
+    alloc: Global,
+    replica: &mut Causal<Tally>,
+    from: &Causal<Tally>,
+    asked: &[&str],
+    out: &mut String,
+) -> Result<(), Fault> {
+    if asked.is_empty() {
+        let count = hear(replica, from)?;
+        return Ok(write!(out, "{count} new")?);
+    }
+    let (count, answer) = hear_undone(alloc, replica, from, asked)?;
+    write!(out, "{count} new, ")?;
+    put_answer(&answer, out)
+}
+
+// What changes one replica, or else what only asks it.
+fn answer_one(
+    alloc: Global,
+    replica: &mut Causal<Tally>,
+    verb: &str,
+    words: &[&str],
+    out: &mut String,
+) -> Result<(), Fault> {
+    match verb {
+        "accept" => answer_accepted(alloc, replica, words, out),
+        "hold" => hold(alloc, replica, words),
+        "hear_acks" => answer_acks(alloc, replica, words, out),
+        "settle" => Ok(replica.settle()?),
+        "drop_answered" => Ok(replica.drop_answered()),
+        _ => answer_asked(alloc, replica, verb, words, out),
+    }
+}
+
+// An update: accepted; or, with strokes between it, a query to be held and a query, done and undone.
+fn answer_accepted(
+    alloc: Global,
+    replica: &mut Causal<Tally>,
+    words: &[&str],
+    out: &mut String,
+) -> Result<(), Fault> {
+    match cut(words) {
+        None => {
+            let (spot, stamp) = accept(alloc, replica, words)?;
+            Ok(put_accepted(spot, &stamp, out)?)
+        }
+        Some((update, queries)) => answer_accepted_undone(alloc, replica, update, queries, out),
+    }
+}
+
+fn answer_accepted_undone(
+    alloc: Global,
+    replica: &mut Causal<Tally>,
+    update: &[&str],
+    queries: &[&str],
+    out: &mut String,
+) -> Result<(), Fault> {
+    let (query, asked) = cut(queries).ok_or(Fault::Unread)?;
+    let (spot, stamp, answer) = accept_undone(alloc, replica, update, query, asked)?;
+    put_accepted(spot, &stamp, out)?;
+    out.push_str(", ")?;
+    put_answer(&answer, out)
+}
+
+fn answer_acks(
+    alloc: Global,
+    replica: &mut Causal<Tally>,
+    words: &[&str],
+    out: &mut String,
+) -> Result<(), Fault> {
+    let count = hear_acks(alloc, replica, words)?;
+    Ok(write!(out, "{count} new")?)
+}
+
+// What only asks one replica.
+fn answer_asked(
+    alloc: Global,
+    replica: &Causal<Tally>,
+    verb: &str,
+    words: &[&str],
+    out: &mut String,
+) -> Result<(), Fault> {
+    match verb {
+        "read" => answer_read(alloc, replica, words, out),
+        "fresh" => answer_fresh(replica, words, out),
+        "stamps" => Ok(put_stamps(replica, out)?),
+        "heard" => Ok(put_heard(replica, out)?),
+        "executed" => put_executed(alloc, replica, out),
+        "held" => Ok(put_held(replica, out)?),
+        "updates" => Ok(put_updates(replica, out)?),
+        "acks" => Ok(put_acks(replica, out)?),
+        _ => Err(Fault::Unread),
+    }
+}
+
+fn answer_read(
+    alloc: Global,
+    replica: &Causal<Tally>,
+    words: &[&str],
+    out: &mut String,
+) -> Result<(), Fault> {
+    let answer = read(alloc, replica, words)?;
+    put_answer(&answer, out)
+}
+
+// The number of a call, and a message's time.
+fn answer_fresh(replica: &Causal<Tally>, words: &[&str], out: &mut String) -> Result<(), Fault> {
+    let [seq, time] = words else {
+        return Err(Fault::Unread);
+    };
+    let fresh = replica.fresh(cid(number_of(seq)?), number_of(time)?);
+    Ok(put_fresh(&fresh, out)?)
+}

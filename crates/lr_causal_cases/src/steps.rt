@@ -1,0 +1,109 @@
+//! What a replica is asked and told, with each condition of the call tested.
+ghost use Rattle.std.specs.Prelude.{◌≡◌, ◌+◌, ℕ, length, IfOk};
+ghost use Rattle.lr_causal.specs.Causal.{IsAnswerOf, IsGossip};
+ghost use Rattle.lr_causal.specs.Savepoint.{CanUndo};
+ghost use Rattle.lr_causal.specs.State.{config_of, me_of, replica_of};
+
+use crate::faults::Fault;
+use crate::texts::{call_of, cid, number_of, op_of, small_number_of, stamp_of};
+use lr_base::lr_service::{Kind, Operation, Service};
+use lr_base::{Gossip, LogAck, Rows, Spot, Stamp, Text};
+use lr_causal::Causal;
+use lr_log::is_new;
+use std::alloc::Global;
+use svc_tally::{Tally, TallyOp};
+
+/// Accepts an update of the client: its number, its label, and the operation.
+pub fn accept(
+    alloc: Global,
+    replica: &mut Causal<Tally>,
+    words: &[&str],
+) -> Result<(Spot, Stamp), Fault>
+    ensures { (row : ℕ) → CanUndo row (replica_of replica.old) (replica_of replica.new) }
+{
+    let call = call_of(alloc, replica.rep_ts().parts(), words)?;
+    if 1 << 62 <= replica.rep_ts().part(replica.me()) {
+        return Err(Fault::Worn);
+    }
+    match Tally::kind(&call.op) {
+        Kind::Query => Err(Fault::BadOperation),
+        Kind::Causal | Kind::Forced | Kind::Immediate => Ok(replica.accept(&call)?),
+    }
+}
+
+/// Holds a query of the client: its number, its label, and the operation.
+pub fn hold(alloc: Global, replica: &mut Causal<Tally>, words: &[&str]) -> Result<(), Fault>
+    ensures { (row : ℕ) → CanUndo row (replica_of replica.old) (replica_of replica.new) }
+{
+    let call = call_of(alloc, replica.rep_ts().parts(), words)?;
+    Ok(replica.hold(&call)?)
+}
+
+/// What a query is answered, if it is: its label, and the operation.
+pub fn read(alloc: Global, replica: &Causal<Tally>, words: &[&str]) -> Result<Option<Text>, Fault> {
+    let [label, op @ ..] = words else {
+        return Err(Fault::Unread);
+    };
+    let label = stamp_of(replica.rep_ts().parts(), label)?;
+    let op = op_of(alloc, op)?;
+    match Tally::kind(&op) {
+        Kind::Query => Ok(replica.read(&label, &op)?),
+        Kind::Causal | Kind::Forced | Kind::Immediate => Err(Fault::BadOperation),
+    }
+}
+
+/// Takes one replica's gossip at another of its run, and tells how many items were new there.
+pub fn hear(replica: &mut Causal<Tally>, from: &Causal<Tally>) -> Result<u64, Fault>
+    ensures { CanUndo (me_of from.now) (replica_of replica.old) (replica_of replica.new) }
+{
+    if from.config() != replica.config() {
+        return Err(Fault::TwoRuns);
+    }
+    let gossip = from.make_gossip()?;
+    Ok(replica.take_gossip(from.me(), &gossip)?)
+}
+
+/// Takes gossip of a replica that logged nothing but acknowledgements, and tells how many were new: the replica, its
+/// stamp, and the numbers of the acknowledgements.
+pub fn hear_acks(alloc: Global, replica: &mut Causal<Tally>, words: &[&str]) -> Result<u64, Fault> {
+    let [from, rep_ts, numbers @ ..] = words else {
+        return Err(Fault::Unread);
+    };
+    let from = small_number_of(from)?;
+    if replica.config().replicas <= from {
+        return Err(Fault::NoReplica);
+    }
+    let rep_ts = stamp_of(replica.rep_ts().parts(), rep_ts)?;
+    let gossip = gossip_of_acks(alloc, from, rep_ts, numbers)?;
+    Ok(replica.take_gossip(from, &gossip)?)
+}
+
+// The gossip of a replica that received so many items, and of these numbers acknowledgements of the calls of the same
+// numbers.
+fn gossip_of_acks(
+    alloc: Global,
+    place: u8,
+    rep_ts: Stamp,
+    numbers: &[&str],
+) -> Result<Gossip<TallyOp>, Fault>
+    ensures { IfOk result (IsGossip ⟦<TallyOp as Operation>⟧.kind_of (length rep_ts)) }
+{
+    let mut acks = Rows::new(alloc);
+    for number in numbers {
+        let number = number_of(number)?;
+        let spot = Spot { place, number };
+        if is_new(&rep_ts, spot) {
+            return Err(Fault::Unreceived);
+        }
+        acks.push(LogAck {
+            spot,
+            cid: cid(number),
+            time: 0,
+        })?;
+    }
+    Ok(Gossip {
+        rep_ts,
+        updates: Rows::new(alloc),
+        acks,
+    })
+}
