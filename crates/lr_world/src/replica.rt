@@ -71,6 +71,7 @@ impl<S: Service> Replica<S> {
     }
 
     /// Does a task up to what can't fail, or nothing at all. Then `finish` ends the step, or `undo` takes it back.
+    #[inline(always)]
     pub fn begin(
         &mut self,
         task: Task<'_, S::Op>,
@@ -127,6 +128,7 @@ impl<S: Service> Replica<S> {
     }
 
     // All of a task, but for what can't fail.
+    #[inline(always)]
     fn make(
         &mut self,
         task: Task<'_, S::Op>,
@@ -281,6 +283,7 @@ impl<S: Service> Replica<S> {
     }
 
     // What is ready is applied, and then held queries are answered, behind what the step did.
+    #[inline(always)]
     fn settle(&mut self, point: &mut Savepoint<S>, out: &mut Outbox<S::Op>) -> Result<(), NoMemory>
         ensures did { OnOk result (HasDone (settled S.meaning self.old.causal) self.new.causal out.old out.new) }
         ensures same { IsSame self.old self.new }

@@ -98,6 +98,7 @@ impl<S: Service> Run<S> {
     }
 
     /// Makes one event up to what can't fail, or nothing at all. Then `finish` ends the step, or `undo` takes it back.
+    #[inline(always)]
     pub(crate) fn begin(&mut self, event: &Event<S::Op>) -> Result<Pending<S>, NoMemory>
         requires { IsEventOf S.meaning (setup_of self.old) event.now }
         ensures setup { setup_of self.new ≡ setup_of self.old }
@@ -119,6 +120,7 @@ impl<S: Service> Run<S> {
     }
 
     /// Ends a step. It takes no memory.
+    #[inline(always)]
     pub(crate) fn finish(&mut self, pending: Pending<S>)
         requires { IsActing (setup_of self.old) pending.who }
         ensures setup { setup_of self.new ≡ setup_of self.old }
@@ -175,6 +177,7 @@ impl<S: Service> Run<S> {
     }
 
     // A client calls through a replica.
+    #[inline(always)]
     fn call(
         &mut self,
         client: u32,
@@ -196,6 +199,7 @@ impl<S: Service> Run<S> {
     }
 
     // A message is given to its receiver.
+    #[inline(always)]
     fn deliver(&mut self, number: u64) -> Result<Pending<S>, NoMemory>
         ensures setup { setup_of self.new ≡ setup_of self.old }
         ensures made { let made = stepped S.meaning (run_of self.old) (Event.Deliver number) in
@@ -216,6 +220,7 @@ impl<S: Service> Run<S> {
     }
 
     // A message is given to a front end.
+    #[inline(always)]
     fn give(&mut self, client: u32, at: usize) -> Result<Pending<S>, NoMemory>
         requires client { client < (setup_of self.old).clients }
         requires at { at < length (run_of self.old).posted }
@@ -233,6 +238,7 @@ impl<S: Service> Run<S> {
     }
 
     // A replica does what it is ordered to.
+    #[inline(always)]
     fn order(&mut self, me: u8, order: Order) -> Result<Pending<S>, NoMemory>
         requires me { me < (setup_of self.old).replicas }
         requires within { IsWithin (run_of self.old).posted order }
@@ -252,6 +258,7 @@ impl<S: Service> Run<S> {
     }
 
     // What an actor sends is sent. Where there is no memory for it, the step is taken back.
+    #[inline(always)]
     fn send(&mut self, who: Acting<S>) -> Result<Pending<S>, NoMemory>
         requires acting { IsActing (setup_of self.old) who }
         requires posts { AllPosted S.Op.kind_of (setup_of self.old) self.old.outbox.posts }
