@@ -132,7 +132,7 @@ fn answer_one(
     }
 }
 
-// An update: accepted; or, with a query to be held and a query to be read behind it, with a stroke before each, accepted,
+// An update: accepted; or, where a query to be held and one to be read stand behind it, each behind a stroke, accepted,
 // applied and undone.
 fn answer_accepted(
     alloc: Global,
