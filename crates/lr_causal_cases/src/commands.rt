@@ -3,8 +3,7 @@ ghost use Rattle.std.specs.Prelude.{◌<◌, length, IfOk};
 
 use crate::faults::Fault;
 use crate::printed::{
-    put_accepted, put_acks, put_answer, put_executed, put_fresh, put_heard, put_held, put_stamps,
-    put_updates,
+    put_acks, put_executed, put_fresh, put_heard, put_held, put_stamps, put_updates,
 };
 use crate::steps::{accept, hear, hear_acks, hold, read};
 use crate::texts::{cid, cut, number_of, small_number_of};
@@ -109,12 +108,10 @@ fn answer_heard(
     out: &mut String,
 ) -> Result<(), Fault> {
     if asked.is_empty() {
-        let count = hear(replica, from)?;
-        return Ok(write!(out, "{count} new")?);
+        hear(replica, from, out)
+    } else {
+        hear_undone(alloc, replica, from, asked, out)
     }
-    let (count, answer) = hear_undone(alloc, replica, from, asked)?;
-    write!(out, "{count} new, ")?;
-    put_answer(&answer, out)
 }
 
 // What changes one replica, or else what only asks it.
@@ -128,51 +125,28 @@ fn answer_one(
     match verb {
         "accept" => answer_accepted(alloc, replica, words, out),
         "hold" => hold(alloc, replica, words),
-        "hear_acks" => answer_acks(alloc, replica, words, out),
+        "hear_acks" => hear_acks(alloc, replica, words, out),
         "settle" => Ok(replica.settle()?),
         "drop_answered" => Ok(replica.drop_answered()),
         _ => answer_asked(alloc, replica, verb, words, out),
     }
 }
 
-// An update: accepted; or, with strokes between it, a query to be held and a query, done and undone.
+// An update: accepted; or, where a query to be held and one to be read stand behind it, each behind a stroke, accepted,
+// applied and undone.
 fn answer_accepted(
     alloc: Global,
     replica: &mut Causal<Tally>,
     words: &[&str],
     out: &mut String,
 ) -> Result<(), Fault> {
-    match cut(words) {
-        None => {
-            let (spot, stamp) = accept(alloc, replica, words)?;
-            Ok(put_accepted(spot, &stamp, out)?)
-        }
-        Some((update, queries)) => answer_accepted_undone(alloc, replica, update, queries, out),
-    }
-}
-
-fn answer_accepted_undone(
-    alloc: Global,
-    replica: &mut Causal<Tally>,
-    update: &[&str],
-    queries: &[&str],
-    out: &mut String,
-) -> Result<(), Fault> {
-    let (query, asked) = cut(queries).ok_or(Fault::Unread)?;
-    let (spot, stamp, answer) = accept_undone(alloc, replica, update, query, asked)?;
-    put_accepted(spot, &stamp, out)?;
-    out.push_str(", ")?;
-    put_answer(&answer, out)
-}
-
-fn answer_acks(
-    alloc: Global,
-    replica: &mut Causal<Tally>,
-    words: &[&str],
-    out: &mut String,
-) -> Result<(), Fault> {
-    let count = hear_acks(alloc, replica, words)?;
-    Ok(write!(out, "{count} new")?)
+    let Some((update, queries)) = cut(words) else {
+        return accept(alloc, replica, words, out);
+    };
+    let Some((query, asked)) = cut(queries) else {
+        return Err(Fault::Unread);
+    };
+    accept_undone(alloc, replica, update, query, asked, out)
 }
 
 // What only asks one replica.
@@ -184,7 +158,7 @@ fn answer_asked(
     out: &mut String,
 ) -> Result<(), Fault> {
     match verb {
-        "read" => answer_read(alloc, replica, words, out),
+        "read" => read(alloc, replica, words, out),
         "fresh" => answer_fresh(replica, words, out),
         "stamps" => Ok(put_stamps(replica, out)?),
         "heard" => Ok(put_heard(replica, out)?),
@@ -194,16 +168,6 @@ fn answer_asked(
         "acks" => Ok(put_acks(replica, out)?),
         _ => Err(Fault::Unread),
     }
-}
-
-fn answer_read(
-    alloc: Global,
-    replica: &Causal<Tally>,
-    words: &[&str],
-    out: &mut String,
-) -> Result<(), Fault> {
-    let answer = read(alloc, replica, words)?;
-    put_answer(&answer, out)
 }
 
 // The number of a call, and a message's time.

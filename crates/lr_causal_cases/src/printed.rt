@@ -38,8 +38,14 @@ pub fn put_accepted(spot: Spot, stamp: &Stamp, out: &mut String) -> Result<(), A
     put_stamp(stamp, out)
 }
 
+/// Adds how many items of gossip were new behind `out`.
+pub fn put_count(count: u64, out: &mut String) -> Result<(), AllocError> {
+    write!(out, "{count} new")
+}
+
 /// Adds a query's answer behind `out`, or a dash for none.
 pub fn put_answer(answer: &Option<Text>, out: &mut String) -> Result<(), Fault> {
+    put_comma(out)?;
     let Some(text) = answer else {
         return Ok(out.push_str("-")?);
     };

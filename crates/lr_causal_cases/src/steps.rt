@@ -1,13 +1,14 @@
-//! What a replica is asked and told, with each condition of the call tested.
-ghost use Rattle.std.specs.Prelude.{◌≡◌, ◌+◌, ℕ, length, IfOk};
-ghost use Rattle.lr_causal.specs.Causal.{IsAnswerOf, IsGossip};
+//! What a replica is asked and told, with each condition of the call tested. What it answers goes behind `out`.
+ghost use Rattle.std.specs.Prelude.{ℕ, length, IfOk};
+ghost use Rattle.lr_causal.specs.Causal.{IsGossip};
 ghost use Rattle.lr_causal.specs.Savepoint.{CanUndo};
-ghost use Rattle.lr_causal.specs.State.{config_of, me_of, replica_of};
+ghost use Rattle.lr_causal.specs.State.{me_of, replica_of};
 
 use crate::faults::Fault;
+use crate::printed::{put_accepted, put_answer, put_count};
 use crate::texts::{call_of, cid, number_of, op_of, small_number_of, stamp_of};
 use lr_base::lr_service::{Kind, Operation, Service};
-use lr_base::{Gossip, LogAck, Rows, Spot, Stamp, Text};
+use lr_base::{Gossip, LogAck, Rows, Spot, Stamp};
 use lr_causal::Causal;
 use lr_log::is_new;
 use std::alloc::Global;
@@ -18,7 +19,8 @@ pub fn accept(
     alloc: Global,
     replica: &mut Causal<Tally>,
     words: &[&str],
-) -> Result<(Spot, Stamp), Fault>
+    out: &mut String,
+) -> Result<(), Fault>
     ensures { (row : ℕ) → CanUndo row (replica_of replica.old) (replica_of replica.new) }
 {
     let call = call_of(alloc, replica.rep_ts().parts(), words)?;
@@ -27,7 +29,10 @@ pub fn accept(
     }
     match Tally::kind(&call.op) {
         Kind::Query => Err(Fault::BadOperation),
-        Kind::Causal | Kind::Forced | Kind::Immediate => Ok(replica.accept(&call)?),
+        Kind::Causal | Kind::Forced | Kind::Immediate => {
+            let (spot, stamp) = replica.accept(&call)?;
+            Ok(put_accepted(spot, &stamp, out)?)
+        }
     }
 }
 
@@ -39,33 +44,48 @@ pub fn hold(alloc: Global, replica: &mut Causal<Tally>, words: &[&str]) -> Resul
     Ok(replica.hold(&call)?)
 }
 
-/// What a query is answered, if it is: its label, and the operation.
-pub fn read(alloc: Global, replica: &Causal<Tally>, words: &[&str]) -> Result<Option<Text>, Fault> {
+/// Reads a query's answer, if there is one: its label, and the operation.
+pub fn read(
+    alloc: Global,
+    replica: &Causal<Tally>,
+    words: &[&str],
+    out: &mut String,
+) -> Result<(), Fault> {
     let [label, op @ ..] = words else {
         return Err(Fault::Unread);
     };
     let label = stamp_of(replica.rep_ts().parts(), label)?;
     let op = op_of(alloc, op)?;
     match Tally::kind(&op) {
-        Kind::Query => Ok(replica.read(&label, &op)?),
+        Kind::Query => put_answer(&replica.read(&label, &op)?, out),
         Kind::Causal | Kind::Forced | Kind::Immediate => Err(Fault::BadOperation),
     }
 }
 
-/// Takes one replica's gossip at another of its run, and tells how many items were new there.
-pub fn hear(replica: &mut Causal<Tally>, from: &Causal<Tally>) -> Result<u64, Fault>
+/// Takes one replica's gossip at another of its run.
+pub fn hear(
+    replica: &mut Causal<Tally>,
+    from: &Causal<Tally>,
+    out: &mut String,
+) -> Result<(), Fault>
     ensures { CanUndo (me_of from.now) (replica_of replica.old) (replica_of replica.new) }
 {
     if from.config() != replica.config() {
         return Err(Fault::TwoRuns);
     }
     let gossip = from.make_gossip()?;
-    Ok(replica.take_gossip(from.me(), &gossip)?)
+    let count = replica.take_gossip(from.me(), &gossip)?;
+    Ok(put_count(count, out)?)
 }
 
-/// Takes gossip of a replica that logged nothing but acknowledgements, and tells how many were new: the replica, its
-/// stamp, and the numbers of the acknowledgements.
-pub fn hear_acks(alloc: Global, replica: &mut Causal<Tally>, words: &[&str]) -> Result<u64, Fault> {
+/// Takes gossip of a replica that logged nothing but acknowledgements: the replica, its stamp, and the numbers of the
+/// acknowledgements.
+pub fn hear_acks(
+    alloc: Global,
+    replica: &mut Causal<Tally>,
+    words: &[&str],
+    out: &mut String,
+) -> Result<(), Fault> {
     let [from, rep_ts, numbers @ ..] = words else {
         return Err(Fault::Unread);
     };
@@ -75,7 +95,8 @@ pub fn hear_acks(alloc: Global, replica: &mut Causal<Tally>, words: &[&str]) -> 
     }
     let rep_ts = stamp_of(replica.rep_ts().parts(), rep_ts)?;
     let gossip = gossip_of_acks(alloc, from, rep_ts, numbers)?;
-    Ok(replica.take_gossip(from, &gossip)?)
+    let count = replica.take_gossip(from, &gossip)?;
+    Ok(put_count(count, out)?)
 }
 
 // The gossip of a replica that received so many items, and of these numbers acknowledgements of the calls of the same

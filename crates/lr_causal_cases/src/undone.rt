@@ -1,44 +1,43 @@
 //! Steps that are undone.
 use crate::faults::Fault;
 use crate::steps::{accept, hear, hold, read};
-use lr_base::{Spot, Stamp, Text};
 use lr_causal::Causal;
 use std::alloc::Global;
 use svc_tally::Tally;
 
-/// Accepts an update, holds a query, applies the update, and undoes all three. It tells where the update was accepted,
-/// and what another query was answered before that was undone.
+/// Accepts an update, holds a query, applies the update, asks another query, and undoes what it did.
 pub fn accept_undone(
     alloc: Global,
     replica: &mut Causal<Tally>,
     update: &[&str],
     query: &[&str],
     asked: &[&str],
-) -> Result<(Spot, Stamp, Option<Text>), Fault> {
+    out: &mut String,
+) -> Result<(), Fault> {
     let mut point = replica.save(replica.me());
-    let (spot, stamp) = accept(alloc, replica, update)?;
+    accept(alloc, replica, update, out)?;
     hold(alloc, replica, query)?;
     replica.apply(&mut point)?;
-    let answer = read(alloc, replica, asked)?;
+    read(alloc, replica, asked, out)?;
     replica.restore(point);
-    Ok((spot, stamp, answer))
+    Ok(())
 }
 
-/// Takes gossip, applies it, and undoes both. It tells how many items were new, and what a query was answered before
-/// that was undone.
+/// Takes gossip, applies it, asks a query, and undoes what it did.
 pub fn hear_undone(
     alloc: Global,
     replica: &mut Causal<Tally>,
     from: &Causal<Tally>,
     asked: &[&str],
-) -> Result<(u64, Option<Text>), Fault> {
+    out: &mut String,
+) -> Result<(), Fault> {
     if replica.config().replicas <= from.me() {
         return Err(Fault::NoReplica);
     }
     let mut point = replica.save(from.me());
-    let count = hear(replica, from)?;
+    hear(replica, from, out)?;
     replica.apply(&mut point)?;
-    let answer = read(alloc, replica, asked)?;
+    read(alloc, replica, asked, out)?;
     replica.restore(point);
-    Ok((count, answer))
+    Ok(())
 }
