@@ -97,6 +97,8 @@ impl<S: Service> Run<S> {
         Ok(())
     }
 
+    // The parts of a step are inlined: what it begins with is large, and each call would move it.
+
     /// Makes one event up to what can't fail, or nothing at all. Then `finish` ends the step, or `undo` takes it back.
     #[inline(always)]
     pub(crate) fn begin(&mut self, event: &Event<S::Op>) -> Result<Pending<S>, NoMemory>
