@@ -40,18 +40,20 @@ fn stamp_text(alloc: Global, stamp: &Stamp) -> Result<String, Fail> {
 
 // The client's message is taken, to the end of the step.
 fn whole_step(
+    alloc: Global,
     replica: &mut Replica<Tally>,
     message: &Message<TallyOp>,
-    out: &mut Outbox<TallyOp>,
-) -> Result<(), NoMemory>
+) -> Result<Outbox<TallyOp>, NoMemory>
     requires shaped { IsShaped ⟦<TallyOp as Operation>⟧.kind_of replica.old.config message.now }
     requires client { is_actor replica.old.config (Actor.Client 0) ≡ true }
     ensures { replica.new.config ≡ replica.old.config }
 {
+    let mut out = Outbox::new(alloc);
+    out.open(Actor::Replica(0), 0);
     let from = Actor::Client(0);
-    let _point = replica.begin(Task::Take { from, message }, out)?;
+    let _point = replica.begin(Task::Take { from, message }, &mut out)?;
     replica.finish();
-    Ok(())
+    Ok(out)
 }
 
 // One of the three replicas takes the call of this number.
@@ -72,15 +74,12 @@ fn call(
     let kind = Tally::kind(&op);
     let cid = Cid { client: 0, seq };
     let call = Call { cid, prev, op };
-    let mut out = Outbox::new(alloc);
-    out.open(Actor::Replica(0), 0);
     match kind {
-        Kind::Query => whole_step(replica, &Message::Query { call }, &mut out)?,
+        Kind::Query => Ok(whole_step(alloc, replica, &Message::Query { call })?),
         Kind::Causal | Kind::Forced | Kind::Immediate => {
-            whole_step(replica, &Message::Update { call, time: 0 }, &mut out)?;
+            Ok(whole_step(alloc, replica, &Message::Update { call, time: 0 })?)
         }
     }
-    Ok(out)
 }
 
 // One line for each act.
