@@ -13,6 +13,8 @@ pub mod Logged
 pub mod Meaning
 pub mod OrderLaws
 pub mod Orders
+pub mod PlaceLaws
+pub mod Places
 pub mod Replicas
 pub mod Rules
 pub mod StampLaws

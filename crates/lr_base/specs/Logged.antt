@@ -1,13 +1,14 @@
--- Shapes of logged updates and of executed calls.
-use Rattle.std.specs.Prelude.{◌≡◌, ◌<◌, ℕ, length, List}
+-- Shapes of logged items and of executed calls.
+use Rattle.std.specs.Prelude.{◌≡◌, ◌<◌, ℕ, false, length, List}
 use Rattle.std.specs.List.{slice_get}
 use Rattle.std.specs.Option.{ForSome}
 use Rattle.lr_base.specs.declared.names.Cid.{Cid}
 use Rattle.lr_base.specs.declared.messages.Known.{Known}
+use Rattle.lr_base.specs.declared.messages.LogAck.{LogAck}
 use Rattle.lr_base.specs.declared.messages.LogUpdate.{LogUpdate}
 use Rattle.lr_base.specs.declared.lr_service.Kind.{Kind}
 use Rattle.lr_base.specs.Kinds.{IsUpdate}
-use Rattle.lr_base.specs.Rules.{known_of}
+use Rattle.lr_base.specs.Rules.{is_new, known_of}
 
 -- an update whose stamp has these many parts, one of them for its place
 pub record Fits {Op : Type 0} (parts : ℕ) (u : LogUpdate Op) : Type 0 where
@@ -31,3 +32,11 @@ AllFit parts updates = (k : ℕ) → ForSome (slice_get updates k) (Fits parts)
 -- the stamp of each executed call has these many parts
 abbrev pub AllKnown : ℕ → List (Cid × Known) → Type 0
 AllKnown parts calls = (cid : Cid) → ForSome (known_of calls cid) (λ known. length known.stamp ≡ parts)
+
+-- no update of the list is new where so many items were received of each place
+abbrev pub AllReceived : {Op : Type 0} → List ℕ → List (LogUpdate Op) → Type 0
+AllReceived rep_ts updates = (k : ℕ) → ForSome (slice_get updates k) (λ u. is_new rep_ts u.spot ≡ false)
+
+-- and no acknowledgement
+abbrev pub AllAcksReceived : List ℕ → List LogAck → Type 0
+AllAcksReceived rep_ts acks = (k : ℕ) → ForSome (slice_get acks k) (λ a. is_new rep_ts a.spot ≡ false)

@@ -12,6 +12,7 @@ mod messages;
 mod names;
 mod numbers;
 mod orders;
+mod places;
 mod rows;
 mod stamp;
 
@@ -29,5 +30,6 @@ pub use limits::{
 pub use messages::{Call, Fresh, Gossip, Known, LogAck, LogUpdate, Message};
 pub use names::{Actor, Cid, Config, Spot};
 pub use numbers::{put_number, read_number};
+pub use places::Places;
 pub use rows::{NoMemory, Rows, Text};
 pub use stamp::Stamp;

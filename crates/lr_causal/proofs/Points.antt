@@ -14,7 +14,7 @@ use Rattle.lr_base.specs.Rules.{CausalState, gossip_taken, is_before, is_new, ne
 use Rattle.lr_base.specs.Stamps.{join, part, set_part}
 use Rattle.lr_base.specs.StampLaws.{join-least, length-join, length-set_part, parts-stamp_le, stamp_le-refl, stamp_le-trans}
 use Rattle.lr_value.specs.Applied.{Applied}
-use Rattle.lr_causal.specs.Causal.{AllAcksReceived, AllReceived}
+use Rattle.lr_base.specs.Logged.{AllAcksReceived, AllReceived}
 use Rattle.lr_causal.specs.Savepoint.{HasShapeOf, IsPointOf, Saved, restored, value_before}
 use Rattle.lr_causal.proofs.Kept.{filter-none, filter-insert, filter-insert_all}
 use Rattle.lr_causal.proofs.Each.{Each-passes}

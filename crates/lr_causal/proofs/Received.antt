@@ -7,7 +7,7 @@ use Rattle.lr_base.specs.declared.names.Spot.{Spot}
 use Rattle.lr_base.specs.Rules.{is_before, is_new, new_acks, new_updates, insert_acks, insert_update, insert_updates}
 use Rattle.lr_base.specs.Stamps.{join, part, set_part, stamp_le}
 use Rattle.lr_base.specs.StampLaws.{join-least, part-set_part, parts-stamp_le, stamp_le-refl}
-use Rattle.lr_causal.specs.Causal.{AllAcksReceived, AllReceived}
+use Rattle.lr_base.specs.Logged.{AllAcksReceived, AllReceived}
 use Rattle.lr_causal.proofs.Each.{Each-filter, Each-passes, Each-insert, Each-insert_all}
 use Rattle.lr_log.specs.Items.{Items}
 

@@ -1,31 +1,22 @@
 -- Facts that a causal replica keeps.
-use Rattle.std.specs.Prelude.{◌≡◌, ℕ, false, length, List}
+use Rattle.std.specs.Prelude.{◌≡◌, ℕ, length, List}
 use Rattle.std.specs.Option.{ForSome}
 use Rattle.lr_base.specs.declared.messages.Call.{Call}
 use Rattle.lr_base.specs.declared.messages.Fresh.{Fresh}
 use Rattle.lr_base.specs.declared.messages.Fresh.TheVariants.{Again}
 use Rattle.lr_base.specs.declared.messages.Gossip.{Gossip}
-use Rattle.lr_base.specs.declared.messages.LogAck.{LogAck}
 use Rattle.lr_base.specs.declared.messages.LogUpdate.{LogUpdate}
 use Rattle.lr_base.specs.declared.lr_service.Kind.{Kind}
 use Rattle.lr_base.specs.declared.names.Spot.{Spot}
 use Rattle.lr_base.specs.Kinds.{IsUpdate}
-use Rattle.lr_base.specs.Logged.{AllLogged}
-use Rattle.lr_base.specs.Rules.{is_new, stamp_of}
+use Rattle.lr_base.specs.Logged.{AllAcksReceived, AllLogged, AllReceived}
+use Rattle.lr_base.specs.Rules.{stamp_of}
 use Rattle.std.specs.List.{slice_get}
 
 -- the stamp of a call that was taken before has these many parts
 abbrev pub AgainHasParts : ℕ → Fresh → Type 0
 AgainHasParts parts (Again spot stamp) = length stamp ≡ parts
 AgainHasParts parts _ = Unit {0}
-
--- no update of the list is new where so many items were received of each place
-abbrev pub AllReceived : {Op : Type 0} → List ℕ → List (LogUpdate Op) → Type 0
-AllReceived rep_ts updates = (k : ℕ) → ForSome (slice_get updates k) (λ u. is_new rep_ts u.spot ≡ false)
-
--- and no acknowledgement
-abbrev pub AllAcksReceived : List ℕ → List LogAck → Type 0
-AllAcksReceived rep_ts acks = (k : ℕ) → ForSome (slice_get acks k) (λ a. is_new rep_ts a.spot ≡ false)
 
 -- gossip of a run whose stamps have these many parts: each update of it can be applied, and by its own stamp each item
 -- of it was received

@@ -1,8 +1,8 @@
 //! The causal part of a replica.
 ghost use Rattle.std.specs.Prelude.{◌≡◌, ◌+◌, ◌<◌, length, IfOk};
 ghost use Rattle.lr_base.specs.Config.{IsValid};
-ghost use Rattle.lr_base.specs.Logged.{AllLogged, AllKnown};
-ghost use Rattle.lr_causal.specs.Causal.{AllAcksReceived, AllReceived, AllStamps};
+ghost use Rattle.lr_base.specs.Logged.{AllAcksReceived, AllKnown, AllLogged, AllReceived};
+ghost use Rattle.lr_causal.specs.Causal.{AllStamps};
 
 use crate::applying::apply_copy;
 use crate::calls::CallTable;

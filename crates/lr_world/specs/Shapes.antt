@@ -7,8 +7,7 @@ use Rattle.lr_base.specs.declared.names.Actor.TheVariants.{Client, Replica}
 use Rattle.lr_base.specs.declared.names.Config.{Config}
 use Rattle.lr_base.specs.declared.acts.Act.{Act}
 use Rattle.lr_base.specs.declared.acts.Act.TheVariants.{Say, Send}
-use Rattle.lr_base.specs.Logged.{AllLogged}
-use Rattle.lr_causal.specs.Causal.{AllAcksReceived, AllReceived}
+use Rattle.lr_base.specs.Logged.{AllAcksReceived, AllLogged, AllReceived}
 use Rattle.lr_base.specs.declared.messages.LogAck.{LogAck}
 use Rattle.lr_base.specs.declared.messages.LogUpdate.{LogUpdate}
 use Rattle.lr_base.specs.declared.messages.Message.{Message}

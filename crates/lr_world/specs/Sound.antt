@@ -2,12 +2,11 @@
 use Rattle.std.specs.Prelude.{◌≡◌, ◌+◌, ◌<◌, ℕ, List, length, slice_get}
 use Rattle.std.specs.Option.{ForSome}
 use Rattle.lr_base.specs.Kinds.{IsQuery}
-use Rattle.lr_base.specs.Logged.{AllKnown, AllLogged}
+use Rattle.lr_base.specs.Logged.{AllAcksReceived, AllKnown, AllLogged, AllReceived}
 use Rattle.lr_base.specs.Replicas.{ReplicaState}
 use Rattle.lr_base.specs.declared.lr_service.Kind.{Kind}
 use Rattle.lr_base.specs.declared.messages.Call.{Call}
 use Rattle.lr_base.specs.declared.names.Config.{Config}
-use Rattle.lr_causal.specs.Causal.{AllAcksReceived, AllReceived}
 
 -- a query of this run: its label has a part for each place, its client is one of the run's, and it only reads
 pub record IsAsked {Op : Type 0} (kind_of : Op → Kind) (config : Config) (call : Call Op) : Type 0 where

@@ -1,4 +1,4 @@
-use Rattle.lr_causal.specs.Causal.{AllAcksReceived}
+use Rattle.lr_base.specs.Logged.{AllAcksReceived}
 use Rattle.lr_causal_cases.proofs.steps.gossip_of_acks.Given as goal
 
 -- the stamp says of those so far that they were received
