@@ -44,12 +44,14 @@ module _ {A : Type 0} (spot_of : A → Spot) where
           → below (suc place) (x ∷ items) ≡ below place (x ∷ items) ++ items_at spot_of place (x ∷ items)
       go true less t same rest =
           let low : (spot_of x).place < place = ltb-true (spot_of x).place place less in
-          let under : nat_lt (spot_of x).place (suc place) ≡ true = lt-ltb (spot_of x).place (suc place) (omega arith) in
+          let under : nat_lt (spot_of x).place (suc place) ≡ true =
+          lt-ltb (spot_of x).place (suc place) (omega arith) in
           let other : ((spot_of x).place == place) ≡ false = ne_eqb (spot_of x).place place (λ e. omega arith) in
           rw (under, less, other) (ap (λ (l : List A). x ∷ l) rest)
       go false less true same rest =
           let e : (spot_of x).place ≡ place = eqb-true (spot_of x).place place same in
-          let under : nat_lt (spot_of x).place (suc place) ≡ true = lt-ltb (spot_of x).place (suc place) (omega arith) in
+          let under : nat_lt (spot_of x).place (suc place) ≡ true =
+          lt-ltb (spot_of x).place (suc place) (omega arith) in
           let none : below place items ≡ [] = none-below place x items (omega arith) order.0 in
           let now : below (suc place) items ≡ items_at spot_of place items =
           rest ∙ ap (λ (l : List A). l ++ items_at spot_of place items) none in
