@@ -5,7 +5,7 @@ use Rattle.lr_base.specs.declared.names.Actor.TheVariants.{Client, Replica}
 
 -- the column of an event, where the first drawn one has this number; all before it stand at the edge
 abbrev pub x_of : ℕ → ℕ → ℕ
-x_of first event = cond (nat_lt event first) 44 (72 + 32 * (event - first))
+x_of first event = cond (nat_lt event first) 44 (72 + 30 * (event - first))
 
 -- whether two actors are one
 abbrev pub same_actor : Actor → Actor → Bool
@@ -16,4 +16,4 @@ same_actor (Replica a) (Replica b) = a == b
 
 -- the height of an actor's lane, which is the one of its place among the lanes' actors
 abbrev pub y_of : List Actor → Actor → ℕ
-y_of lanes actor = 96 + 68 * min (unwrap_or (position (λ lane. same_actor lane actor) lanes) 0) 127
+y_of lanes actor = 84 + 68 * min (unwrap_or (position (λ lane. same_actor lane actor) lanes) 0) 127

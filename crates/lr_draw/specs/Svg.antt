@@ -12,6 +12,8 @@ use Rattle.lr_draw.specs.declared.marks.Mark.{Mark}
 use Rattle.lr_draw.specs.declared.marks.Mark.TheVariants.{Line, Dot, Words, Number, Name, Tag, Key}
 use Rattle.lr_draw.specs.declared.marks.Picture.{Picture}
 use Rattle.lr_draw.specs.declared.marks.Point.{Point}
+use Rattle.lr_draw.specs.declared.marks.Side.{Side}
+use Rattle.lr_draw.specs.declared.marks.Side.TheVariants.{Left, Right}
 use Rattle.lr_draw.specs.declared.printing.TheConstants.{DOT, OPENING, SHIFT, STYLE}
 use Rattle.lr_draw.specs.Escapes.{escaped}
 use Rattle.lr_draw.specs.Kinds.{kind_name}
@@ -72,6 +74,11 @@ actor_name (Replica number) = field_text (codes "r") number
 abbrev pub message_name : ℕ → Kind → List ℕ
 message_name number kind = decimal number ++ (codes " " ++ kind_name kind)
 
+-- the tag of a message's text up to its place, which it ends or begins at
+abbrev pub side_text : Side → List ℕ
+side_text Left = codes "<text class='s"
+side_text Right = codes "<text class='t"
+
 abbrev pub line_text : Class → Point → Point → List ℕ → List ℕ
 line_text class from to title =
     codes "<path class='" ++ (class_name class ++ (way_text from to ++ (title_text title ++ codes "</path>\n")))
@@ -90,8 +97,8 @@ mark_text bytes (Dot class at title) = dot_text class at (shown_of bytes title)
 mark_text bytes (Words at text) = words_text at (shown_of bytes text)
 mark_text bytes (Number at number) = codes "<text class='n" ++ (spot_text at ++ (decimal number ++ codes "</text>\n"))
 mark_text bytes (Name at actor) = codes "<text class='l" ++ (spot_text at ++ (actor_name actor ++ codes "</text>\n"))
-mark_text bytes (Tag at number kind) =
-    codes "<text class='t" ++ (spot_text at ++ (message_name number kind ++ codes "</text>\n"))
+mark_text bytes (Tag at side number kind) =
+    side_text side ++ (spot_text at ++ (message_name number kind ++ codes "</text>\n"))
 mark_text bytes (Key at kind) = codes "<text class='k" ++ (spot_text at ++ (kind_name kind ++ codes "</text>\n"))
 
 -- where an arrow begins: at the event that sent the message, on the sender's lane

@@ -10,13 +10,13 @@ use lr_base::{Actor, Rows};
 /// Where a drawn event's column is, in pixels from the left: the first one, and the distance of two.
 pub const LEFT: u64 = 72;
 
-pub const STEP: u64 = 32;
+pub const STEP: u64 = 30;
 
 /// Where what comes from before the drawn events begins.
 pub const EDGE: u64 = 44;
 
 /// Where a lane is, in pixels from the top: the first one, and the distance of two.
-pub const TOP: u64 = 96;
+pub const TOP: u64 = 84;
 
 pub const GAP: u64 = 68;
 
@@ -44,6 +44,13 @@ pub enum Class {
     Ring,
     /// As the messages of this kind.
     Of(Kind),
+}
+
+/// Whether a text ends or begins at its place.
+#[derive(Clone, Copy)]
+pub enum Side {
+    Left,
+    Right,
 }
 
 /// What is drawn. Spans are of the input's bytes.
@@ -75,9 +82,10 @@ pub enum Mark {
         at: Point,
         actor: Actor,
     },
-    /// A message's number and kind.
+    /// A message's number and kind, on one side of the place.
     Tag {
         at: Point,
+        side: Side,
         number: u64,
         kind: Kind,
     },

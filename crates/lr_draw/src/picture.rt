@@ -10,7 +10,7 @@ use crate::history::{Event, History, Message, Range, Refused, Span};
 use crate::kinds::Kind;
 use crate::lanes::{lanes_of, put_lanes};
 use crate::legend::put_legend;
-use crate::marks::{Class, GAP, LEFT, Mark, Picture, Point, TOP, column};
+use crate::marks::{Class, GAP, LEFT, Mark, Picture, Point, Side, TOP, column};
 use crate::steps::{Scene, put_steps};
 use lr_base::{NoMemory, Rows};
 use std::alloc::Global;
@@ -111,39 +111,61 @@ fn put_foot(scene: &Scene<'_>, arrows: &[Arrow], over: &mut Rows<Mark>) -> Resul
     })
 }
 
-// Adds the number and the kind of each arrow's message, beside its middle.
+// Adds the number and the kind of each arrow's message, beside it.
 fn put_tags(scene: &Scene<'_>, arrows: &[Arrow], over: &mut Rows<Mark>) -> Result<(), NoMemory> {
-    for arrow in arrows {
+    for (at, arrow) in arrows.iter().enumerate() {
+        let number = arrow.number;
+        let is_repeated = arrows[..at].iter().any(|other| other.number == number);
         let from = scene.place(arrow.sent.event, arrow.sent.from);
         let to = scene.place(arrow.ends, arrow.sent.to);
-        put_tag(from, to, arrow.number, arrow.sent.kind, over)?;
+        let tag = Tag {
+            number,
+            kind: arrow.sent.kind,
+            is_repeated,
+        };
+        put_tag(from, to, tag, over)?;
     }
     Ok(())
 }
 
-fn put_tag(
-    from: Point,
-    to: Point,
+// What stands beside an arrow, and whether it stands beside an earlier one too.
+#[derive(Clone, Copy)]
+struct Tag {
     number: u64,
     kind: Kind,
-    over: &mut Rows<Mark>,
-) -> Result<(), NoMemory> {
-    let x = from.x.saturating_add(to.x) / 2;
-    let middle = from.y.saturating_add(to.y) / 2;
-    // The free side is above an arrow that falls, and below one that rises.
-    let y = if from.y < to.y {
-        middle.saturating_sub(1)
+    is_repeated: bool,
+}
+
+// The text of an arrow that falls stands on its left, and that of one that rises on its right, both nearer to the
+// upper end: so those of a message and of its reply don't meet. That of a message delivered again is nearer to the
+// lower end, where its arrows are further apart.
+fn put_tag(from: Point, to: Point, tag: Tag, over: &mut Rows<Mark>) -> Result<(), NoMemory> {
+    let falls = from.y < to.y;
+    let part = match (falls, tag.is_repeated) {
+        (true, false) => 3,
+        (true, true) => 7,
+        (false, false) => 6,
+        (false, true) => 8,
+    };
+    let x = part_way(from.x, to.x, part);
+    let y = part_way(from.y, to.y, part).saturating_add(7);
+    let (x, side) = if falls {
+        (x.saturating_sub(3), Side::Left)
     } else {
-        middle.saturating_add(9)
+        (x.saturating_add(4), Side::Right)
     };
     over.push(Mark::Tag {
-        at: Point {
-            x: x.saturating_add(4),
-            y,
-        },
-        number,
-        kind,
+        at: Point { x, y },
+        side,
+        number: tag.number,
+        kind: tag.kind,
     })
+}
+
+// What is so many tenths of the way from one number to another.
+fn part_way(from: u64, to: u64, part: u64) -> u64 {
+    let kept = from.saturating_mul(10u64.saturating_sub(part));
+    kept.saturating_add(to.saturating_mul(part)) / 10
 }
 
 // For each message the number of the last event that delivers it, or 0.
@@ -186,6 +208,14 @@ fn put_undelivered(
     Ok(())
 }
 
+fn tag_of(message: Message, number: u64) -> Tag {
+    Tag {
+        number,
+        kind: message.kind,
+        is_repeated: false,
+    }
+}
+
 // A message that goes beyond what is drawn ends at the edge.
 fn put_beyond(
     scene: &Scene<'_>,
@@ -205,7 +235,7 @@ fn put_beyond(
         to,
         title: message.line,
     })?;
-    put_tag(from, to, number, message.kind, over)
+    put_tag(from, to, tag_of(message, number), over)
 }
 
 // A message that was never delivered ends in a small cross.
@@ -234,7 +264,11 @@ fn put_lost(
         title: message.line,
     })?;
     put_cross(to, message.line, over)?;
-    put_tag(to, to, number, message.kind, over)
+    let side = Point {
+        x: to.x.saturating_add(3),
+        y: to.y.saturating_sub(3),
+    };
+    put_tag(side, side, tag_of(message, number), over)
 }
 
 fn put_cross(at: Point, title: Span, over: &mut Rows<Mark>) -> Result<(), NoMemory> {

@@ -2,14 +2,14 @@
 ghost use Rattle.std.specs.Prelude.{◌≡◌, ◌++◌, OnOk};
 ghost use Rattle.std.specs.List.{flat_map};
 ghost use Rattle.lr_draw.specs.Svg.{actor_name, arrow_text, begin_of, center_text, class_name, dot_text, end_of, field_text, line_text, mark_text, message_name};
-ghost use Rattle.lr_draw.specs.Svg.{opening_text, picture_text, shift_text, size_text, spot_text, title_text, view_text, way_text, words_text};
+ghost use Rattle.lr_draw.specs.Svg.{opening_text, picture_text, shift_text, side_text, size_text, spot_text, title_text, view_text, way_text, words_text};
 
 use crate::arrows::Arrow;
 use crate::escapes::put_escaped;
 use crate::history::Span;
 use crate::kinds::Kind;
 use crate::lines::shown;
-use crate::marks::{Class, Mark, Picture, Point, column, height};
+use crate::marks::{Class, Mark, Picture, Point, Side, column, height};
 use lr_base::{Actor, NoMemory, Text, put_number};
 
 /// How everything looks, and the head of an arrow.
@@ -19,7 +19,7 @@ line,path{stroke:#888;stroke-width:1.3;fill:none}\n.n{fill:#777;text-anchor:midd
 .lane{stroke:#bbb;stroke-width:1}\n.broken{stroke:#c00;stroke-width:1;stroke-dasharray:2 6}\n\
 .bar{stroke:#f2c14e;stroke-width:9;stroke-opacity:.7}\n.cross{stroke:#c00;stroke-width:2}\n\
 circle{fill:#222;stroke:#fff;stroke-width:1}\n.ring{fill:#fff;stroke:#222}\n\
-.a{marker-end:url(#head)}\n.t{font:9px sans-serif;stroke:none}\n\
+.a{marker-end:url(#head)}\n.t,.s{font:9px sans-serif;stroke:none}\n.s{text-anchor:end}\n\
 .update{stroke:#1f5fbf}\n.query{stroke:#2a8f3c;stroke-dasharray:7 3}\n\
 .ack{stroke:#7a5230;stroke-dasharray:2 3}\n.done{stroke:#1f5fbf;stroke-width:2.2;stroke-dasharray:12 3}\n\
 .answer{stroke:#2a8f3c;stroke-width:2.2;stroke-dasharray:7 3}\n\
@@ -158,6 +158,16 @@ fn put_actor(actor: Actor, out: &mut Text) -> Result<(), NoMemory>
     }
 }
 
+// The tag of a message's text up to its place.
+fn put_side(side: Side, out: &mut Text) -> Result<(), NoMemory>
+    ensures { OnOk result (out.new ≡ out.old ++ side_text side) }
+{
+    match side {
+        Side::Left => out.extend(b"<text class='s"),
+        Side::Right => out.extend(b"<text class='t"),
+    }
+}
+
 fn put_message(number: u64, kind: Kind, out: &mut Text) -> Result<(), NoMemory>
     ensures { OnOk result (out.new ≡ out.old ++ message_name number kind) }
 {
@@ -191,8 +201,13 @@ fn put_mark(bytes: &[u8], mark: Mark, out: &mut Text) -> Result<(), NoMemory>
             put_actor(actor, out)?;
             out.extend(b"</text>\n")
         }
-        Mark::Tag { at, number, kind } => {
-            out.extend(b"<text class='t")?;
+        Mark::Tag {
+            at,
+            side,
+            number,
+            kind,
+        } => {
+            put_side(side, out)?;
             put_spot(at, out)?;
             put_message(number, kind, out)?;
             out.extend(b"</text>\n")

@@ -10,7 +10,7 @@ use lr_base::{Actor, NoMemory, Rows};
 // Where an event's number stands, and what it did where it has no lane, in pixels from the top.
 const NUMBER_HEIGHT: u64 = 16;
 
-const LANELESS_HEIGHT: u64 = 52;
+const LANELESS_HEIGHT: u64 = 46;
 
 // How far apart the short texts of one event are.
 const TEXT_GAP: u64 = 11;
