@@ -4,7 +4,8 @@ use Rattle.std.specs.Fmt.{decimal}
 use Rattle.lr_base.specs.declared.names.Actor.{Actor}
 use Rattle.lr_base.specs.declared.names.Actor.TheVariants.{Client, Replica}
 use Rattle.lr_draw.specs.declared.acts.Act.{Act}
-use Rattle.lr_draw.specs.declared.acts.Act.TheVariants.{Deliver as Delivery, At, Restart as Restarts, Gossip as Gossips, Elsewhere}
+use Rattle.lr_draw.specs.declared.acts.Act.TheVariants.{Deliver as Delivery, At, Restart as Restarts}
+use Rattle.lr_draw.specs.declared.acts.Act.TheVariants.{Gossip as Gossips, Elsewhere}
 use Rattle.lr_draw.specs.declared.acts.Word.{Word}
 use Rattle.lr_draw.specs.declared.acts.Word.TheVariants.{Deliver, Call, Resend, Ack, Gossip, Restart}
 use Rattle.lr_draw.specs.declared.acts.Word.TheVariants.{Tick, View, Drive, FailSave, HalfSave, Show}
@@ -60,7 +61,8 @@ IsActBy word fields (Delivery message) = (word ≡ Deliver) × (fields ≡ decim
 IsActBy word fields (At actor) = IsPlace word fields actor
 IsActBy word fields (Restarts replica) = (word ≡ Restart) × IsNumberBelow 15 replica (first_field fields)
 IsActBy word fields (Gossips from to) =
-    (word ≡ Gossip) × IsNumberBelow 15 from (first_field fields) × IsNumberBelow 15 to (first_field (behind_field fields))
+    (word ≡ Gossip) × IsNumberBelow 15 from (first_field fields) × IsNumberBelow 15 to (first_field (behind_field
+    fields))
 IsActBy word fields Elsewhere = ⊥
 
 -- what stands behind the word is no number in its range

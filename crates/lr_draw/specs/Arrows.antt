@@ -1,5 +1,6 @@
 -- The arrows of a picture: one for each delivery that is drawn.
-use Rattle.std.specs.Prelude.{◌==◌, ◌-◌, ℕ, Bool, ◌&&◌, nat_le, nat_lt, cond, Option, None, Some, List, [], slice_get, option_to_list}
+use Rattle.std.specs.Prelude.{◌==◌, ◌-◌, ℕ, Bool, ◌&&◌, nat_le, nat_lt, cond, Option, None, Some, List, []}
+use Rattle.std.specs.Prelude.{slice_get, option_to_list}
 use Rattle.lr_draw.specs.declared.acts.Act.{Act}
 use Rattle.lr_draw.specs.declared.acts.Act.TheVariants.{Deliver, At, Restart, Gossip, Elsewhere}
 use Rattle.lr_draw.specs.declared.arrows.Arrow.{Arrow}

@@ -3,10 +3,12 @@ use Rattle.std.specs.Prelude.{◌≡◌, ◌≢◌, ◌<◌, ◌≤◌, ◌⊎�
 use Rattle.std.specs.Io.KnownBytes.{Appends, Consumes, IsAtEnd}
 use Rattle.lr_outside.specs.Faults.{Rose}
 use Rattle.lr_draw.specs.declared.command.DrawEnd.{DrawEnd}
-use Rattle.lr_draw.specs.declared.command.DrawEnd.TheVariants.{Ok as Done, Line, TooLong, ReadFault, WriteFault, NoMemory}
+use Rattle.lr_draw.specs.declared.command.DrawEnd.TheVariants.{Ok as Done, Line, TooLong, ReadFault, WriteFault}
+use Rattle.lr_draw.specs.declared.command.DrawEnd.TheVariants.{NoMemory}
 use Rattle.lr_draw.specs.declared.history.Range.{Range}
 use Rattle.lr_draw.specs.declared.history.Refused.{Refused}
-use Rattle.lr_draw.specs.declared.history.Refused.TheVariants.{Line as BadLine, TooLong as TooMuch, NoMemory as NoMemoryLeft}
+use Rattle.lr_draw.specs.declared.history.Refused.TheVariants.{Line as BadLine, TooLong as TooMuch}
+use Rattle.lr_draw.specs.declared.history.Refused.TheVariants.{NoMemory as NoMemoryLeft}
 use Rattle.lr_draw.specs.Drawings.{HasTooMany, IsDrawing}
 use Rattle.lr_draw.specs.Histories.{IsFirstBad}
 

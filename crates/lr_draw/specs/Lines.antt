@@ -1,5 +1,6 @@
 -- The lines of bytes: printable ones, and behind them a line feed.
-use Rattle.std.specs.Prelude.{◌≢◌, ℕ, ◌+◌, ◌-◌, min, length, take, drop, Bool, not, nat_le, ◌&&◌, Option, None, Some, List, [], ◌∷◌, ◌++◌, slice_index, position}
+use Rattle.std.specs.Prelude.{◌≢◌, ℕ, ◌-◌, min, length, take, drop, Bool, not, nat_le, ◌&&◌, Option, None}
+use Rattle.std.specs.Prelude.{Some, List, [], ◌∷◌, ◌++◌, slice_index, position}
 use Rattle.lr_draw.specs.declared.history.Span.{Span}
 
 -- whether a byte is outside those from the space to the tilde

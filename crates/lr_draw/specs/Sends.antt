@@ -26,4 +26,5 @@ IsNobody field = (actor : Actor) → ¬ (IsActor field actor)
 -- there is no sender, no receiver, or nothing that was sent
 abbrev pub IsNoWay : List ℕ → Type 0
 IsNoWay fields =
-    IsNobody (first_field fields) ⊎ IsNobody (first_field (behind_field fields)) ⊎ (behind_field (behind_field fields) ≡ [])
+    IsNobody (first_field fields) ⊎ IsNobody (first_field (behind_field fields)) ⊎ (behind_field (behind_field
+    fields) ≡ [])

@@ -5,7 +5,8 @@ use Rattle.std.specs.Io.KnownBytes.{Appends}
 use Rattle.std.specs.declared.alloc.Global.{Global}
 use Rattle.lr_outside.specs.Faults.{Rose}
 use Rattle.lr_draw.specs.declared.command.DrawEnd.{DrawEnd}
-use Rattle.lr_draw.specs.declared.command.DrawEnd.TheVariants.{Ok as Done, Line, TooLong, ReadFault, WriteFault, NoMemory}
+use Rattle.lr_draw.specs.declared.command.DrawEnd.TheVariants.{Ok as Done, Line, TooLong, ReadFault, WriteFault}
+use Rattle.lr_draw.specs.declared.command.DrawEnd.TheVariants.{NoMemory}
 use Rattle.lr_draw.specs.declared.history.Range.{Range}
 use Rattle.lr_draw.specs.Ends.{DrawEnded, DrawMeans}
 
@@ -16,7 +17,8 @@ pub record AreNumbers (first last : List ℕ) (range : Range) : Type 0 where
   pub from_one : 1 ≤ range.first
   pub in_order : range.first ≤ range.last
 
--- the words ask for these events: the program's name alone for all, and with two numbers for those from one to the other
+-- the words ask for these events: the program's name alone for all, and two numbers behind it for those from one to
+-- the other
 abbrev pub IsRange : List (String Global) → Range → Type 0
 IsRange (program ∷ []) range = range ≡ record { first = 1; last = 2 ^ 64 - 1 }
 IsRange (program ∷ first ∷ last ∷ []) range = AreNumbers (string_bytes first) (string_bytes last) range
@@ -56,8 +58,8 @@ text_of NoMemory = text_line (codes "draw: no memory")
 abbrev pub IsCode : ℕ → Type 0
 IsCode code = (code ≡ 0) ⊎ (code ≡ 2) ⊎ (code ≡ 3) ⊎ (code ≡ 4) ⊎ (code ≡ 5) ⊎ (code ≡ 6)
 
--- this end was told on standard error where that didn't fail, or that there was no memory for a bad line's text, and the
--- status says which
+-- this end was told on standard error where that didn't fail, or that there was no memory for a bad line's text; and
+-- the status says which
 pub record Told (err_before err_now : ℕ) (told_before told_now : Option (List ℕ))
     (end : DrawEnd) (code : ℕ) : Type 0 where
   pub end_told : DrawEnd

@@ -1,8 +1,10 @@
 //! The picture's text.
 ghost use Rattle.std.specs.Prelude.{◌≡◌, ◌++◌, OnOk};
 ghost use Rattle.std.specs.List.{flat_map};
-ghost use Rattle.lr_draw.specs.Svg.{actor_name, arrow_text, begin_of, center_text, class_name, dot_text, end_of, field_text, line_text, mark_text, message_name};
-ghost use Rattle.lr_draw.specs.Svg.{opening_text, picture_text, shift_text, side_text, size_text, spot_text, title_text, view_text, way_text, words_text};
+ghost use Rattle.lr_draw.specs.Svg.{actor_name, arrow_text, begin_of, center_text, class_name, dot_text, end_of};
+ghost use Rattle.lr_draw.specs.Svg.{field_text, line_text, mark_text, message_name};
+ghost use Rattle.lr_draw.specs.Svg.{opening_text, picture_text, shift_text, side_text, size_text, spot_text};
+ghost use Rattle.lr_draw.specs.Svg.{title_text, view_text, way_text, words_text};
 
 use crate::arrows::Arrow;
 use crate::escapes::put_escaped;

@@ -1,5 +1,6 @@
 //! A printed history, read from its bytes.
-ghost use Rattle.std.specs.Prelude.{◌≡◌, ◌≢◌, ◌≤◌, ◌<◌, ◌+◌, ◌++◌, ◌^◌, ℕ, List, codes, length, IfOk, IfErr, IfSome, IsNone, OnOk};
+ghost use Rattle.std.specs.Prelude.{◌≡◌, ◌≢◌, ◌≤◌, ◌<◌, ◌+◌, ◌++◌, ◌^◌, ℕ, List, codes, length, IfOk, IfErr};
+ghost use Rattle.std.specs.Prelude.{IfSome, IsNone, OnOk};
 ghost use Rattle.std.specs.Fmt.{decimal};
 ghost use Rattle.lr_draw.specs.Histories.{event_front, events_in, IsBadLine, IsLine, messages_in, send_front};
 ghost use Rattle.lr_draw.specs.Histories.{BeginsWithHeader, IsHistory, IsNoHeader, IsReadUpTo, IsRefusal};

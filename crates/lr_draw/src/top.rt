@@ -5,6 +5,9 @@ ghost use Rattle.lr_outside.specs.Faults.{Rose};
 ghost use Rattle.lr_draw.specs.Top.{AreNumbers, DrawStatus, IsAsked, IsCode, IsRange, text_of, Told, usage_text};
 ghost use Rattle.lr_draw.specs.declared.history.Range.{Range};
 
+#[cfg(test)]
+mod tests;
+
 use crate::command::{DrawEnd, draw_command};
 use crate::history::Range;
 use lr_base::read_number;

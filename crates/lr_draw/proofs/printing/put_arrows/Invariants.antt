@@ -5,4 +5,5 @@ use Rattle.lr_draw.proofs.printing.put_arrows.Given as goal
 
 -- the arrows so far were added
 abbrev pub invariant-loop-arrow : goal.invariant-loop-arrow
-invariant-loop-arrow l = l.out ≡ l.initial.out ++ flat_map (arrow_text l.bytes l.picture) (take l.arrow-index l.picture.arrows)
+invariant-loop-arrow l = l.out ≡ l.initial.out ++ flat_map (arrow_text l.bytes l.picture) (take l.arrow-index
+    l.picture.arrows)

@@ -8,4 +8,5 @@ returns-in_default-behind-clause-bad c _ rest is =
     no_turn rest is (λ fields e. c.in_default-behind.ensures fields (e ∙ ap (λ (f : List ℕ). f ++ fields) (sym front)))
 
 pub returns-in_default-way_of-clause-bad : goal.returns-in_default-way_of-clause-bad
-returns-in_default-way_of-clause-bad c _ rest is = no_way c.in-Some.fields.now (search rules) (c.in_default-way_of.ensures.none refl)
+returns-in_default-way_of-clause-bad c _ rest is = no_way c.in-Some.fields.now (search rules)
+    (c.in_default-way_of.ensures.none refl)

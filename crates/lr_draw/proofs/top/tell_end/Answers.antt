@@ -9,6 +9,8 @@ returns-in-Ok-fault_line g c = record {
   same = inl refl;
   status = c.tell.ensures.code ∙ sym (ap code_of c.in-Line.is);
   told = λ quiet.
-      let text : c.as_bytes.result.now ≡ text_of c.args.end = c.as_bytes.ensures.value ∙ c.in-Ok-fault_line.ensures ∙ sym (ap text_of c.in-Line.is) in
-      subst (λ (bytes : List ℕ). Appends (g.E.Sink.held c.args.err.now) (g.E.Sink.held c.tell.new.err) bytes) text (c.tell.ensures.told quiet);
+      let text : c.as_bytes.result.now ≡ text_of c.args.end = c.as_bytes.ensures.value
+      ∙ c.in-Ok-fault_line.ensures ∙ sym (ap text_of c.in-Line.is) in
+      subst (λ (bytes : List ℕ). Appends (g.E.Sink.held c.args.err.now) (g.E.Sink.held c.tell.new.err) bytes) text
+      (c.tell.ensures.told quiet);
 }
