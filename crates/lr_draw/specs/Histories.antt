@@ -53,8 +53,8 @@ IsLine place line (Send message) = IsSendLine place line message
 IsLine place line Said = IsSaidLine place line
 
 -- a line that can't stand behind those before it: it begins with neither two spaces nor the next event's number; or
--- what stands there is no event's; or it tells what was done where there is no event; or what it says of a message isn't
--- so
+-- what stands there is no event's; or it tells what was done where there is no event; or what it says of a message
+-- isn't so
 pub data IsBadLine (place : Place) (line : List ℕ) : Type 0 where
   no_front : ((rest : List ℕ) → line ≢ codes "  " ++ rest)
       → ((text : List ℕ) → line ≢ event_front (place.events + 1) ++ text) → IsBadLine place line
