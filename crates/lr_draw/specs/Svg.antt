@@ -1,5 +1,5 @@
 -- The text of a picture, element by element.
-use Rattle.std.specs.Prelude.{ℕ, List, ◌++◌, codes}
+use Rattle.std.specs.Prelude.{ℕ, Bool, true, false, List, ◌++◌, codes}
 use Rattle.std.specs.Fmt.{decimal}
 use Rattle.std.specs.List.{flat_map}
 use Rattle.lr_base.specs.declared.names.Actor.{Actor}
@@ -38,10 +38,14 @@ spot_text at = field_text (codes "' x='") at.x ++ (field_text (codes "' y='") at
 unfoldable pub center_text : Point → List ℕ
 center_text at = field_text (codes "' cx='") at.x ++ (field_text (codes "' cy='") at.y ++ codes "'>")
 
--- where a text begins that rises to the right, which ends its element's tag
-unfoldable pub shift_text : Point → List ℕ
-shift_text at =
-    field_text SHIFT.now at.x ++ (field_text (codes " ") at.y ++ codes ") rotate(-30)'>")
+-- how a text rises or falls to the right, which ends its element's tag
+abbrev pub tilt_text : Bool → List ℕ
+tilt_text true = codes ") rotate(-30)'>"
+tilt_text false = codes ") rotate(30)'>"
+
+-- where such a text begins
+unfoldable pub shift_text : Point → Bool → List ℕ
+shift_text at rises = field_text SHIFT.now at.x ++ (field_text (codes " ") at.y ++ tilt_text rises)
 
 -- a picture's size
 unfoldable pub size_text : Point → List ℕ
@@ -87,14 +91,14 @@ abbrev pub dot_text : Class → Point → List ℕ → List ℕ
 dot_text class at title =
     DOT.now ++ (class_name class ++ (center_text at ++ (title_text title ++ codes "</circle>\n")))
 
-abbrev pub words_text : Point → List ℕ → List ℕ
-words_text at text = codes "<text class='o" ++ (shift_text at ++ (escaped text ++ codes "</text>\n"))
+abbrev pub words_text : Point → Bool → List ℕ → List ℕ
+words_text at rises text = codes "<text class='o" ++ (shift_text at rises ++ (escaped text ++ codes "</text>\n"))
 
 -- an element that isn't an arrow; what it shows of the input is taken from the bytes
 unfoldable pub mark_text : List ℕ → Mark → List ℕ
 mark_text bytes (Line class from to title) = line_text class from to (shown_of bytes title)
 mark_text bytes (Dot class at title) = dot_text class at (shown_of bytes title)
-mark_text bytes (Words at text) = words_text at (shown_of bytes text)
+mark_text bytes (Words at rises text) = words_text at rises (shown_of bytes text)
 mark_text bytes (Number at number) = codes "<text class='n" ++ (spot_text at ++ (decimal number ++ codes "</text>\n"))
 mark_text bytes (Name at actor) = codes "<text class='l" ++ (spot_text at ++ (actor_name actor ++ codes "</text>\n"))
 mark_text bytes (Tag at side number kind) =

@@ -67,9 +67,10 @@ pub enum Mark {
         at: Point,
         title: Span,
     },
-    /// A short text, which rises to the right.
+    /// A short text, which rises or falls to the right.
     Words {
         at: Point,
+        rises: bool,
         text: Span,
     },
     /// An event's number.

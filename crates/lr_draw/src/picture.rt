@@ -136,17 +136,12 @@ struct Tag {
     is_repeated: bool,
 }
 
-// The text of an arrow that falls stands on its left, and that of one that rises on its right, both nearer to the
-// upper end: so those of a message and of its reply don't meet. That of a message delivered again is nearer to the
-// lower end, where its arrows are further apart.
+// The text of an arrow that falls stands on its left, and that of one that rises on its right, both nearer to its
+// begin: so those of a message and of its reply don't meet. That of a message delivered again is nearer to the end,
+// where its arrows are further apart.
 fn put_tag(from: Point, to: Point, tag: Tag, over: &mut Rows<Mark>) -> Result<(), NoMemory> {
     let falls = from.y < to.y;
-    let part = match (falls, tag.is_repeated) {
-        (true, false) => 3,
-        (true, true) => 7,
-        (false, false) => 6,
-        (false, true) => 8,
-    };
+    let part = if tag.is_repeated { 7 } else { 3 };
     let x = part_way(from.x, to.x, part);
     let y = part_way(from.y, to.y, part).saturating_add(7);
     let (x, side) = if falls {

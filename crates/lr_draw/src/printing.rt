@@ -4,7 +4,7 @@ ghost use Rattle.std.specs.List.{flat_map};
 ghost use Rattle.lr_draw.specs.Svg.{actor_name, arrow_text, begin_of, center_text, class_name, dot_text, end_of};
 ghost use Rattle.lr_draw.specs.Svg.{field_text, line_text, mark_text, message_name};
 ghost use Rattle.lr_draw.specs.Svg.{opening_text, picture_text, shift_text, side_text, size_text, spot_text};
-ghost use Rattle.lr_draw.specs.Svg.{title_text, view_text, way_text, words_text};
+ghost use Rattle.lr_draw.specs.Svg.{tilt_text, title_text, view_text, way_text, words_text};
 
 use crate::arrows::Arrow;
 use crate::escapes::put_escaped;
@@ -40,7 +40,7 @@ pub const OPENING: &[u8] = b"<svg xmlns='http://www.w3.org/2000/svg' version='1.
 /// The tag of a dot up to its class.
 pub const DOT: &[u8] = b"<circle r='4' class='";
 
-/// How a text's tag says where it begins, if it rises to the right.
+/// How a text's tag says where it begins, if it rises or falls.
 pub const SHIFT: &[u8] = b"' transform='translate(";
 
 #[tactic(auto, unfolding(crate::specs::Svg::field_text))]
@@ -122,21 +122,30 @@ fn put_dot(class: Class, at: Point, title: &[u8], out: &mut Text) -> Result<(), 
     out.extend(b"</circle>\n")
 }
 
-// Where a text begins that rises to the right, which ends its element's tag.
+// Where a text begins that rises or falls to the right, which ends its element's tag.
 #[tactic(auto, unfolding(crate::specs::Svg::shift_text))]
-fn put_shift(at: Point, out: &mut Text) -> Result<(), NoMemory>
-    ensures { OnOk result (out.new ≡ out.old ++ shift_text at) }
+fn put_shift(at: Point, rises: bool, out: &mut Text) -> Result<(), NoMemory>
+    ensures { OnOk result (out.new ≡ out.old ++ shift_text at rises) }
 {
     put_field(SHIFT, at.x, out)?;
     put_field(b" ", at.y, out)?;
-    out.extend(b") rotate(-30)'>")
+    put_tilt(rises, out)
 }
 
-fn put_words(at: Point, text: &[u8], out: &mut Text) -> Result<(), NoMemory>
-    ensures { OnOk result (out.new ≡ out.old ++ words_text at text.now) }
+fn put_tilt(rises: bool, out: &mut Text) -> Result<(), NoMemory>
+    ensures { OnOk result (out.new ≡ out.old ++ tilt_text rises) }
+{
+    if rises {
+        return out.extend(b") rotate(-30)'>");
+    }
+    out.extend(b") rotate(30)'>")
+}
+
+fn put_words(at: Point, rises: bool, text: &[u8], out: &mut Text) -> Result<(), NoMemory>
+    ensures { OnOk result (out.new ≡ out.old ++ words_text at rises text.now) }
 {
     out.extend(b"<text class='o")?;
-    put_shift(at, out)?;
+    put_shift(at, rises, out)?;
     put_escaped(text, out)?;
     out.extend(b"</text>\n")
 }
@@ -190,7 +199,7 @@ fn put_mark(bytes: &[u8], mark: Mark, out: &mut Text) -> Result<(), NoMemory>
             title,
         } => put_line(class, from, to, shown(bytes, title), out),
         Mark::Dot { class, at, title } => put_dot(class, at, shown(bytes, title), out),
-        Mark::Words { at, text } => put_words(at, shown(bytes, text), out),
+        Mark::Words { at, rises, text } => put_words(at, rises, shown(bytes, text), out),
         Mark::Number { at, number } => {
             out.extend(b"<text class='n")?;
             put_spot(at, out)?;

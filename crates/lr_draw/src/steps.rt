@@ -106,7 +106,8 @@ fn put_step(
     let number = event.number;
     over.push(Mark::Number { at, number })?;
     put_ring(scene, event, block, over)?;
-    match lane_of(scene.messages, event) {
+    let lane = lane_of(scene.messages, event);
+    let at = match lane {
         Some(actor) => {
             let at = scene.place(number, actor);
             let class = Class::Dot;
@@ -115,16 +116,14 @@ fn put_step(
                 at,
                 title: block,
             })?;
-            put_texts(scene, at, block, over)
+            at
         }
-        None => {
-            let at = Point {
-                x,
-                y: LANELESS_HEIGHT,
-            };
-            put_texts(scene, at, block, over)
-        }
-    }
+        None => Point {
+            x,
+            y: LANELESS_HEIGHT,
+        },
+    };
+    put_texts(scene, place_of(at, lane), block, over)
 }
 
 // The other replica that gossip names has a ring.
@@ -144,29 +143,68 @@ fn put_ring(
     }
 }
 
-// Adds a short text for each outcome that isn't a message, one above the other.
+// Where the short texts of an event begin, and whether they rise: those of a replica fall below its lane, so that they
+// don't meet its replies.
+#[derive(Clone, Copy)]
+struct Place {
+    at: Point,
+    rises: bool,
+}
+
+// The place for one text more, above or below this one.
+fn next_place(place: Place) -> Place {
+    let Place { at, rises } = place;
+    let y = if rises {
+        at.y.saturating_sub(TEXT_GAP)
+    } else {
+        at.y.saturating_add(TEXT_GAP)
+    };
+    Place {
+        at: Point { x: at.x, y },
+        rises,
+    }
+}
+
+fn place_of(at: Point, lane: Option<Actor>) -> Place {
+    match lane {
+        Some(Actor::Replica(_)) => Place {
+            at: Point {
+                x: at.x.saturating_add(1),
+                y: at.y.saturating_add(14),
+            },
+            rises: false,
+        },
+        Some(Actor::Client(_)) | None => Place {
+            at: Point {
+                x: at.x.saturating_add(4),
+                y: at.y.saturating_sub(7),
+            },
+            rises: true,
+        },
+    }
+}
+
+// Adds a short text for each outcome that isn't a message, one beyond the other.
 fn put_texts(
     scene: &Scene<'_>,
-    at: Point,
+    first: Place,
     block: Span,
     over: &mut Rows<Mark>,
 ) -> Result<(), NoMemory> {
     let mut rest = outcomes_of(scene.bytes, block);
-    let mut y = at.y.saturating_sub(7);
+    let mut place = first;
     while let Some(cut) = first_line(rest) {
         if let Some(text) = text_of(cut.line) {
             let start = block.end.saturating_add(1).saturating_sub(rest.len());
             let start = start.saturating_add(2);
             let end = start.saturating_add(short_len(text));
-            let at = Point {
-                x: at.x.saturating_add(4),
-                y,
-            };
+            let Place { at, rises } = place;
             over.push(Mark::Words {
                 at,
+                rises,
                 text: Span { start, end },
             })?;
-            y = y.saturating_sub(TEXT_GAP);
+            place = next_place(place);
         }
         rest = cut.later;
     }
