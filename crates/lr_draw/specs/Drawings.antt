@@ -4,8 +4,8 @@ use Rattle.std.specs.List.{flat_map}
 use Rattle.lr_draw.specs.declared.history.Event.{Event}
 use Rattle.lr_draw.specs.declared.history.History.{History}
 use Rattle.lr_draw.specs.declared.history.Range.{Range}
-use Rattle.lr_draw.specs.declared.history.Refused.{Refused}
-use Rattle.lr_draw.specs.declared.history.Refused.TheVariants.{Line, TooLong, NoMemory}
+use Rattle.lr_draw.specs.declared.history.DrawFault.{DrawFault}
+use Rattle.lr_draw.specs.declared.history.DrawFault.TheVariants.{Line, TooLong, NoMemory}
 use Rattle.lr_draw.specs.declared.marks.Picture.{Picture}
 use Rattle.lr_draw.specs.Arrows.{arrows_at, is_drawn}
 use Rattle.lr_draw.specs.Histories.{IsFirstBad, IsHistory}
@@ -37,7 +37,7 @@ pub record HasTooMany (range : Range) (bytes : List ℕ) : Type 0 where
   pub many : 10000 < drawn_count range history.events
 
 -- why there is no picture of these events of the bytes
-abbrev pub IsUndrawn : Range → List ℕ → Refused → Type 0
+abbrev pub IsUndrawn : Range → List ℕ → DrawFault → Type 0
 IsUndrawn range bytes (Line number) = IsFirstBad bytes number
 IsUndrawn range bytes TooLong = (67108864 < length bytes) ⊎ HasTooMany range bytes
 IsUndrawn range bytes NoMemory = Unit {0}

@@ -6,9 +6,9 @@ use Rattle.lr_draw.specs.declared.command.DrawEnd.{DrawEnd}
 use Rattle.lr_draw.specs.declared.command.DrawEnd.TheVariants.{Ok as Done, Line, TooLong, ReadFault, WriteFault}
 use Rattle.lr_draw.specs.declared.command.DrawEnd.TheVariants.{NoMemory}
 use Rattle.lr_draw.specs.declared.history.Range.{Range}
-use Rattle.lr_draw.specs.declared.history.Refused.{Refused}
-use Rattle.lr_draw.specs.declared.history.Refused.TheVariants.{Line as BadLine, TooLong as TooMuch}
-use Rattle.lr_draw.specs.declared.history.Refused.TheVariants.{NoMemory as NoMemoryLeft}
+use Rattle.lr_draw.specs.declared.history.DrawFault.{DrawFault}
+use Rattle.lr_draw.specs.declared.history.DrawFault.TheVariants.{Line as BadLine, TooLong as TooMuch}
+use Rattle.lr_draw.specs.declared.history.DrawFault.TheVariants.{NoMemory as NoMemoryLeft}
 use Rattle.lr_draw.specs.Drawings.{HasTooMany, IsDrawing}
 use Rattle.lr_draw.specs.Histories.{IsFirstBad}
 
@@ -48,7 +48,7 @@ DrawMeans left_before left_now before now range end =
     (bytes : List ℕ) × HasRead left_before left_now bytes × Means range bytes before now end
 
 -- the end of a drawing that was refused
-abbrev pub refused_end : Refused → DrawEnd
+abbrev pub refused_end : DrawFault → DrawEnd
 refused_end (BadLine number) = Line number
 refused_end TooMuch = TooLong
 refused_end NoMemoryLeft = NoMemory

@@ -5,8 +5,8 @@ use Rattle.lr_base.specs.Meaning.{is_printable}
 use Rattle.lr_draw.specs.declared.history.Event.{Event}
 use Rattle.lr_draw.specs.declared.history.History.{History}
 use Rattle.lr_draw.specs.declared.history.Message.{Message}
-use Rattle.lr_draw.specs.declared.history.Refused.{Refused}
-use Rattle.lr_draw.specs.declared.history.Refused.TheVariants.{Line as BadLine, TooLong, NoMemory}
+use Rattle.lr_draw.specs.declared.history.DrawFault.{DrawFault}
+use Rattle.lr_draw.specs.declared.history.DrawFault.TheVariants.{Line as BadLine, TooLong, NoMemory}
 use Rattle.lr_draw.specs.declared.reading.Line.{Line}
 use Rattle.lr_draw.specs.declared.reading.Line.TheVariants.{Event as Begins, Send, Said}
 use Rattle.lr_draw.specs.declared.reading.Place.{Place}
@@ -134,7 +134,7 @@ pub record IsReadUpTo (bytes rest : List ℕ) (count : ℕ) (history : History) 
   pub few : length history.events + length history.messages ≤ count
 
 -- why the bytes were not read as a history
-abbrev pub IsRefusal : List ℕ → Refused → Type 0
+abbrev pub IsRefusal : List ℕ → DrawFault → Type 0
 IsRefusal bytes (BadLine number) = IsFirstBad bytes number
 IsRefusal bytes TooLong = ⊥
 IsRefusal bytes NoMemory = Unit {0}

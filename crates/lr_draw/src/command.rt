@@ -3,7 +3,7 @@ ghost use Rattle.std.specs.Prelude.{◌≡◌, IfOk, IfErr};
 ghost use Rattle.lr_draw.specs.Drawings.{IsDrawing, IsUndrawn};
 ghost use Rattle.lr_draw.specs.Ends.{DrawEnded, DrawMeans, Means, refused_end, WriteEnded};
 
-use crate::history::{Range, Refused};
+use crate::history::{DrawFault, Range};
 use crate::picture::draw_history;
 use crate::printing::put_picture;
 use crate::reading::read_history;
@@ -59,27 +59,27 @@ fn draw_bytes<W: Sink>(alloc: Global, bytes: &[u8], range: Range, out: &mut W) -
             Ok(()) => DrawEnd::Ok,
             Err(_) => DrawEnd::WriteFault,
         },
-        Err(refused) => end_of(refused),
+        Err(refused) => ended_by(refused),
     }
 }
 
-fn end_of(refused: Refused) -> DrawEnd
+fn ended_by(refused: DrawFault) -> DrawEnd
     ensures { result ≡ refused_end refused }
 {
     match refused {
-        Refused::Line(line) => DrawEnd::Line { line },
-        Refused::TooLong => DrawEnd::TooLong,
-        Refused::NoMemory => DrawEnd::NoMemory,
+        DrawFault::Line(line) => DrawEnd::Line { line },
+        DrawFault::TooLong => DrawEnd::TooLong,
+        DrawFault::NoMemory => DrawEnd::NoMemory,
     }
 }
 
 // The text of the picture of the history that the bytes are.
-fn drawn(alloc: Global, bytes: &[u8], range: Range) -> Result<Text, Refused>
+fn drawn(alloc: Global, bytes: &[u8], range: Range) -> Result<Text, DrawFault>
     ensures ok { IfOk result (IsDrawing range bytes.now) }
     ensures err { IfErr result (IsUndrawn range bytes.now) }
 {
     if MOST_INPUT < bytes.len() {
-        return Err(Refused::TooLong);
+        return Err(DrawFault::TooLong);
     }
     let history = match read_history(alloc, bytes) {
         Ok(history) => history,
@@ -92,6 +92,6 @@ fn drawn(alloc: Global, bytes: &[u8], range: Range) -> Result<Text, Refused>
     let mut text = Text::new(alloc);
     match put_picture(bytes, &picture, &mut text) {
         Ok(()) => Ok(text),
-        Err(_) => Err(Refused::NoMemory),
+        Err(_) => Err(DrawFault::NoMemory),
     }
 }

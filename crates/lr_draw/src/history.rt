@@ -44,7 +44,7 @@ pub struct Range {
 
 /// Why there is no picture.
 #[derive(Clone, Copy)]
-pub enum Refused {
+pub enum DrawFault {
     /// The line of this number, from 1, isn't one of a history.
     Line(u64),
     /// There are too many bytes, or too many events in one picture.

@@ -33,8 +33,8 @@ fn put_named(
     messages: &[Message],
     lanes: &mut Rows<Actor>,
 ) -> Result<(), NoMemory> {
-    let is_sender = |message: &Message| is_same(message.from, actor) || is_same(message.to, actor);
-    if messages.iter().any(is_sender) {
+    let is_party = |message: &Message| is_same(message.from, actor) || is_same(message.to, actor);
+    if messages.iter().any(is_party) {
         return lanes.push(actor);
     }
     if events.iter().any(|event| names(event.act, actor)) {

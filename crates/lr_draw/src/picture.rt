@@ -6,7 +6,7 @@ ghost use Rattle.lr_draw.specs.Drawings.{drawn_count, IsPicture};
 
 use crate::arrows::{Arrow, arrow_to, arrows_of, is_in};
 use crate::bars::put_bars;
-use crate::history::{Event, History, Message, Range, Refused, Span};
+use crate::history::{DrawFault, Event, History, Message, Range, Span};
 use crate::kinds::Kind;
 use crate::lanes::{lanes_of, put_lanes};
 use crate::legend::put_legend;
@@ -33,19 +33,19 @@ pub fn draw_history(
     bytes: &[u8],
     history: &History,
     range: Range,
-) -> Result<Picture, Refused>
+) -> Result<Picture, DrawFault>
     ensures ok { IfOk result (IsPicture range history.now) }
-    ensures long { result ≡ Err Refused.TooLong → 10000 < drawn_count range history.now.events }
-    ensures line { (number : ℕ) → result ≢ Err (Refused.Line number) }
+    ensures long { result ≡ Err DrawFault.TooLong → 10000 < drawn_count range history.now.events }
+    ensures line { (number : ℕ) → result ≢ Err (DrawFault.Line number) }
 {
     let events = history.events.as_slice();
     let messages = history.messages.as_slice();
     if MOST_EVENTS < count_drawn(range, events) {
-        return Err(Refused::TooLong);
+        return Err(DrawFault::TooLong);
     }
     match draw_marks(alloc, bytes, events, messages, range) {
         Ok(picture) => Ok(picture),
-        Err(_) => Err(Refused::NoMemory),
+        Err(_) => Err(DrawFault::NoMemory),
     }
 }
 

@@ -7,7 +7,7 @@ ghost use Rattle.lr_draw.specs.Histories.{BeginsWithHeader, IsHistory, IsNoHeade
 
 use crate::acts::act_of;
 use crate::fields::behind;
-use crate::history::{Event, History, Message, Refused, Span};
+use crate::history::{DrawFault, Event, History, Message, Span};
 use crate::lines::{Cut, first_line};
 use crate::sends::way_of;
 use lr_base::{NoMemory, Rows, Text, put_number};
@@ -137,14 +137,14 @@ fn add_line(history: &mut History, line: Line) -> Result<(), NoMemory>
 }
 
 /// The history that the bytes are.
-pub fn read_history(alloc: Global, bytes: &[u8]) -> Result<History, Refused>
+pub fn read_history(alloc: Global, bytes: &[u8]) -> Result<History, DrawFault>
     requires { length bytes.now ≤ 67108864 }
     ensures ok { IfOk result (IsHistory bytes.now) }
     ensures err { IfErr result (IsRefusal bytes.now) }
 {
     let mut rest = match header_lines(bytes) {
         Some(lines) => lines,
-        None => return Err(Refused::Line(1)),
+        None => return Err(DrawFault::Line(1)),
     };
     let mut history = History {
         events: Rows::new(alloc),
@@ -182,7 +182,7 @@ fn read_next<'a>(
     lines: &'a [u8],
     count: u64,
     history: &mut History,
-) -> Result<&'a [u8], Refused>
+) -> Result<&'a [u8], DrawFault>
     requires short { length bytes.now ≤ 67108864 }
     requires read { IsReadUpTo bytes.now lines.now count history.old }
     ensures ok { IfOk result (λ later. IsReadUpTo bytes.now later.now (count + 1) history.new) }
@@ -191,7 +191,7 @@ fn read_next<'a>(
 {
     let number = count + 1;
     let Some(cut) = first_line(lines) else {
-        return Err(Refused::Line(number));
+        return Err(DrawFault::Line(number));
     };
     let Cut { line, later } = cut;
     let start = bytes.len() - lines.len();
@@ -205,11 +205,11 @@ fn read_next<'a>(
     };
     let read = match read_line(alloc, place, line) {
         Ok(read) => read,
-        Err(LineFault::Bad) => return Err(Refused::Line(number)),
-        Err(LineFault::NoMemory) => return Err(Refused::NoMemory),
+        Err(LineFault::Bad) => return Err(DrawFault::Line(number)),
+        Err(LineFault::NoMemory) => return Err(DrawFault::NoMemory),
     };
     match add_line(history, read) {
         Ok(()) => Ok(later),
-        Err(_) => Err(Refused::NoMemory),
+        Err(_) => Err(DrawFault::NoMemory),
     }
 }

@@ -123,7 +123,7 @@ fn put_step(
             y: LANELESS_HEIGHT,
         },
     };
-    put_texts(scene, place_of(at, lane), block, over)
+    put_texts(scene, beside_of(at, lane), block, over)
 }
 
 // The other replica that gossip names has a ring.
@@ -146,35 +146,35 @@ fn put_ring(
 // Where the short texts of an event begin, and whether they rise: those of a replica fall below its lane, so that they
 // don't meet its replies.
 #[derive(Clone, Copy)]
-struct Place {
+struct Beside {
     at: Point,
     rises: bool,
 }
 
 // The place for one text more, above or below this one.
-fn next_place(place: Place) -> Place {
-    let Place { at, rises } = place;
+fn next_beside(beside: Beside) -> Beside {
+    let Beside { at, rises } = beside;
     let y = if rises {
         at.y.saturating_sub(TEXT_GAP)
     } else {
         at.y.saturating_add(TEXT_GAP)
     };
-    Place {
+    Beside {
         at: Point { x: at.x, y },
         rises,
     }
 }
 
-fn place_of(at: Point, lane: Option<Actor>) -> Place {
+fn beside_of(at: Point, lane: Option<Actor>) -> Beside {
     match lane {
-        Some(Actor::Replica(_)) => Place {
+        Some(Actor::Replica(_)) => Beside {
             at: Point {
                 x: at.x.saturating_add(1),
                 y: at.y.saturating_add(14),
             },
             rises: false,
         },
-        Some(Actor::Client(_)) | None => Place {
+        Some(Actor::Client(_)) | None => Beside {
             at: Point {
                 x: at.x.saturating_add(4),
                 y: at.y.saturating_sub(7),
@@ -187,24 +187,24 @@ fn place_of(at: Point, lane: Option<Actor>) -> Place {
 // Adds a short text for each outcome that isn't a message, one beyond the other.
 fn put_texts(
     scene: &Scene<'_>,
-    first: Place,
+    first: Beside,
     block: Span,
     over: &mut Rows<Mark>,
 ) -> Result<(), NoMemory> {
     let mut rest = outcomes_of(scene.bytes, block);
-    let mut place = first;
+    let mut beside = first;
     while let Some(cut) = first_line(rest) {
         if let Some(text) = text_of(cut.line) {
             let start = block.end.saturating_add(1).saturating_sub(rest.len());
             let start = start.saturating_add(2);
             let end = start.saturating_add(short_len(text));
-            let Place { at, rises } = place;
+            let Beside { at, rises } = beside;
             over.push(Mark::Words {
                 at,
                 rises,
                 text: Span { start, end },
             })?;
-            place = next_place(place);
+            beside = next_beside(beside);
         }
         rest = cut.later;
     }
