@@ -1,0 +1,13 @@
+pub mod Fields
+pub mod Lines
+pub mod Kinds
+pub mod Acts
+pub mod Sends
+pub mod Histories
+pub mod Arrows
+pub mod Places
+pub mod Escapes
+pub mod Svg
+pub mod Drawings
+pub mod Ends
+pub mod Top
