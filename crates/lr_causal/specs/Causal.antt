@@ -1,5 +1,5 @@
 -- Facts that a causal replica keeps.
-use Rattle.std.specs.Prelude.{◌≡◌, ℕ, length, List}
+use Rattle.std.specs.Prelude.{◌≡◌, ℕ, true, false, length, List, Option}
 use Rattle.std.specs.Option.{ForSome}
 use Rattle.lr_base.specs.declared.messages.Call.{Call}
 use Rattle.lr_base.specs.declared.messages.Fresh.{Fresh}
@@ -11,6 +11,9 @@ use Rattle.lr_base.specs.declared.names.Spot.{Spot}
 use Rattle.lr_base.specs.Kinds.{IsUpdate}
 use Rattle.lr_base.specs.Logged.{AllAcksReceived, AllLogged, AllReceived}
 use Rattle.lr_base.specs.Rules.{stamp_of}
+use Rattle.lr_base.specs.Stamps.{stamp_le}
+use Rattle.lr_log.specs.Items.{IsOrdered, items_of}
+use Rattle.lr_value.specs.Applied.{Memory}
 use Rattle.std.specs.List.{slice_get}
 
 -- the stamp of a call that was taken before has these many parts
@@ -18,13 +21,14 @@ abbrev pub AgainHasParts : ℕ → Fresh → Type 0
 AgainHasParts parts (Again spot stamp) = length stamp ≡ parts
 AgainHasParts parts _ = Unit {0}
 
--- gossip of a run whose stamps have these many parts: each update of it can be applied, and by its own stamp each item
--- of it was received
+-- gossip of a run whose stamps have these many parts: each update of it can be applied, by its own stamp each item of it
+-- was received, and its items stand in order, each at a spot of its own
 pub record IsGossip {Op : Type 0} (kind_of : Op → Kind) (parts : ℕ) (gossip : Gossip Op) : Type 0 where
   pub rep_parts : length gossip.rep_ts ≡ parts
   pub logged : AllLogged kind_of parts gossip.updates
   pub updates_received : AllReceived gossip.rep_ts gossip.updates
   pub acks_received : AllAcksReceived gossip.rep_ts gossip.acks
+  pub ordered : IsOrdered (items_of gossip.updates gossip.acks)
 
 -- each stamp of a list has these many parts
 abbrev pub AllStamps : ℕ → List (List ℕ) → Type 0
@@ -40,3 +44,11 @@ pub record IsAnswerOf {Op : Type 0} (parts : ℕ) (u : LogUpdate Op) (answer : S
   pub spot : answer.0 ≡ u.spot
   pub stamp : answer.1 ≡ stamp_of u
   pub stamp_parts : length answer.1 ≡ parts
+
+-- no label of these queries is applied to a value with this stamp
+abbrev pub NoneApplied : {Op : Type 0} → List ℕ → List (Call Op) → Type 0
+NoneApplied val_ts calls = (k : ℕ) → ForSome (slice_get calls k) (λ call. stamp_le call.prev val_ts ≡ false)
+
+-- what a value remembers of a log was received
+abbrev pub HasSeen : List ℕ → Option Memory → Type 0
+HasSeen rep_ts memory = ForSome memory (λ it. stamp_le it.seen rep_ts ≡ true)

@@ -7,12 +7,15 @@ returns g c =
     let it = c.self.inside.causal in
     subst (IsSound g.S.Op.Operation.kind_of) c.self.view_is record {
       own_place = it.own_place;
-      rep_parts = it.rep_parts;
       val_parts = it.val_parts;
       imm_parts = it.imm_parts;
-      logged = it.logged;
-      updates_received = it.updates_received;
-      acks_received = it.acks_received;
+      told = record {
+        rep_parts = it.rep_parts;
+        logged = it.logged;
+        updates_received = it.updates_received;
+        acks_received = it.acks_received;
+        ordered = it.ordered;
+      };
       known = it.known;
       asked = c.self.invariant;
     }
