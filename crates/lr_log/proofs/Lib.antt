@@ -1,2 +1,7 @@
-mod Logs
 mod Parts
+mod Searches
+mod RowLemmas
+mod CallLemmas
+mod Finding
+mod Taking
+mod Logs
