@@ -1,8 +1,9 @@
 //! The causal part of a replica.
-ghost use Rattle.std.specs.Prelude.{◌≡◌, ◌+◌, ◌<◌, length, IfOk};
+ghost use Rattle.std.specs.Prelude.{◌≡◌, ◌+◌, ◌<◌, length, IfOk, IsTrue};
 ghost use Rattle.lr_base.specs.Config.{IsValid};
 ghost use Rattle.lr_base.specs.Logged.{AllAcksReceived, AllKnown, AllLogged, AllReceived};
-ghost use Rattle.lr_causal.specs.Causal.{AllStamps};
+ghost use Rattle.lr_causal.specs.Causal.{AllStamps, HasSeen, NoneApplied};
+ghost use Rattle.lr_value.specs.Remembered.{Remembers};
 
 use crate::calls::CallTable;
 use crate::gossip::{new_acks, new_updates};
@@ -47,15 +48,14 @@ pub struct Causal<S: Service> {
     ghost known: { AllKnown (config.replicas + 1) calls },
     ghost rows: { length table.items ≡ config.replicas },
     ghost row_parts: { AllStamps (config.replicas + 1) table.items },
-    ghost ordered: { IsOrdered log },
     ghost remembers: { Remembers value log.updates },
     ghost seen: { HasSeen rep_ts value.memory },
     ghost waits: { IsTrue all_wait → NoneApplied value.val_ts held.items },
 }
 
 impl<S: Service> Causal<S> {
-    ghost use Rattle.std.specs.Prelude.{◌≡◌, ◌+◌, ◌<◌, ℕ, find, length, IfSome, IfOk, OnOk, OnErr};
-    ghost use Rattle.lr_causal.specs.Causal.{AgainHasParts, IsAnswerOf, IsGossip, IsUpdateCall};
+    ghost use Rattle.std.specs.Prelude.{◌≡◌, ◌+◌, ◌<◌, ◌↔◌, ℕ, find, length, IfSome, IfOk, IsTrue, OnOk, OnErr};
+    ghost use Rattle.lr_causal.specs.Causal.{AgainHasParts, IsAnswerOf, IsGossip, IsUpdateCall, NoneApplied};
     ghost use Rattle.lr_causal.specs.Savepoint.{CanUndo, HasShapeOf, IsPointOf, IsSame};
     ghost use Rattle.lr_base.specs.Config.{IsValid};
     ghost use Rattle.lr_base.specs.Kinds.{IsQuery, IsUpdate};
@@ -302,6 +302,7 @@ impl<S: Service> Causal<S> {
         ensures gossip { IfOk result (λ made. made ≡ gossip_of (state_of self.now)) }
         ensures shape { IfOk result (λ made. IsGossip S.Op.kind_of ((config_of self.now).replicas + 1) made) }
     {
+        self.log.keeps();
         let updates = self.log.copy_updates()?;
         let acks = self.log.copy_acks()?;
         Ok(Gossip {

@@ -67,7 +67,7 @@ impl<S: Service> Replica<S> {
     pub fn keeps(&self)
         ensures { IsSound S.Op.kind_of self.now }
     {
-        let _ = &self.causal;
+        self.causal.log().keeps();
     }
 
     /// Does a task up to what can't fail, or nothing at all. Then `finish` ends the step, or `undo` takes it back.

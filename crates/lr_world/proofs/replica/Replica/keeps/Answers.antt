@@ -14,7 +14,7 @@ returns g c =
         logged = it.logged;
         updates_received = it.updates_received;
         acks_received = it.acks_received;
-        ordered = it.ordered;
+        ordered = c.keeps.ensures;
       };
       known = it.known;
       asked = c.self.invariant;
