@@ -83,14 +83,21 @@ module _ {Value Op : Type 0} (m : Meaning Value Op) where
       go true is = rw is refl
       go false is = rw is refl
 
-  one-grows : (p : Progress Value) (u : LogUpdate Op) → stamp_le p.val_ts (apply_one m p u).val_ts ≡ true
+  pub one-grows : (p : Progress Value) (u : LogUpdate Op) → stamp_le p.val_ts (apply_one m p u).val_ts ≡ true
   one-grows p u = rw (one-joins p u) (join-least p.val_ts (stamp_of u)).above_first
 
-  one-covers : (p : Progress Value) (u : LogUpdate Op) → is_covered (apply_one m p u).val_ts u ≡ true
+  pub one-covers : (p : Progress Value) (u : LogUpdate Op) → is_covered (apply_one m p u).val_ts u ≡ true
   one-covers p u = rw (one-joins p u) (join-least p.val_ts (stamp_of u)).above_second
 
+  -- the same at progress that came to the same
+  pub one-grows-at : (p q : Progress Value) (u : LogUpdate Op) → q ≡ apply_one m p u → stamp_le p.val_ts q.val_ts ≡ true
+  one-grows-at p q u is = rw is (one-grows p u)
+
+  pub one-covers-at : (p q : Progress Value) (u : LogUpdate Op) → q ≡ apply_one m p u → is_covered q.val_ts u ≡ true
+  one-covers-at p q u is = rw is (one-covers p u)
+
   -- what was applied stays so
-  all-grows : (turns : ℕ) (todo : List (LogUpdate Op)) (p : Progress Value) → stamp_le p.val_ts (apply_ready m turns todo p).val_ts ≡ true
+  pub all-grows : (turns : ℕ) (todo : List (LogUpdate Op)) (p : Progress Value) → stamp_le p.val_ts (apply_ready m turns todo p).val_ts ≡ true
   all-grows zero todo p = stamp_le-refl p.val_ts
   all-grows (suc turns) todo p = go (λ todo p. all-grows turns todo p) (take_ready p.val_ts todo) refl
     where
@@ -152,7 +159,7 @@ module _ {Op : Type 0} (val_ts : List ℕ) where
       go hyp false is (suc j) e = let e' : slice_get (waiting val_ts updates) j ≡ Some u = rw is at e in hyp j u e'
 
 module _ {Value Op : Type 0} (m : Meaning Value Op) where
-  blocked-idle : (turns : ℕ) (todo : List (LogUpdate Op)) (p : Progress Value) → take_ready p.val_ts todo ≡ None → apply_ready m turns todo p ≡ p
+  pub blocked-idle : (turns : ℕ) (todo : List (LogUpdate Op)) (p : Progress Value) → take_ready p.val_ts todo ≡ None → apply_ready m turns todo p ≡ p
   blocked-idle zero todo p none = refl
   blocked-idle (suc turns) todo p none = rw none refl
 

@@ -3,7 +3,7 @@ use Rattle.std.proofs.lemmas.List.{length-map}
 use Rattle.std.proofs.lemmas.Option.{slice_get_within}
 use Rattle.lr_base.specs.Stamps.{stamp_le}
 use Rattle.lr_value.proofs.Ready.{behind-read, each-more, take_ready-none, TakesAt-first}
-use Rattle.lr_value.proofs.applying.first_ready.Goals as goal
+use Rattle.lr_value.proofs.gathering.first_ready.Goals as goal
 
 pub le-requires : goal.le-requires
 le-requires g c =
