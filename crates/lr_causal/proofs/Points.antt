@@ -142,8 +142,10 @@ module _ {Value Op : Type 0} where
       own : Lagging Value
       own = record { value = state.value; val_ts = state.val_ts; newer = Some next.value }
 
-      now was : Applied Value
+      now : Applied Value
       now = record { value = next.value; val_ts = next.val_ts; memory = None }
+
+      was : Applied Value
       was = record { value = state.value; val_ts = state.val_ts; memory = None }
 
       back : (applied : Option (Lagging Value))

@@ -1,5 +1,5 @@
 -- What a value remembers of a log stays so as the log gains what is new.
-use Rattle.std.proofs.Common.{◌≡◌, ℕ, true, false, List, [], ◌∷◌, Option, Some, refl, sym, ◌∙◌}
+use Rattle.std.proofs.Common.{◌≡◌, ℕ, true, false, List, [], ◌∷◌, Option, None, Some, refl, sym, ◌∙◌}
 use Rattle.std.specs.Option.{ForSome, option_map}
 use Rattle.lr_base.specs.declared.messages.LogUpdate.{LogUpdate}
 use Rattle.lr_base.specs.Rules.{insert_update, insert_updates, is_before, is_covered, is_new, new_updates}
@@ -19,6 +19,7 @@ HasSeen-later rep_ts later memory above seen = λ it e. stamp_le-trans it.seen r
 -- all that was received was looked at
 pub HasSeen-looked : (rep_ts received : List ℕ) (memory : Option Memory) → received ≡ rep_ts
     → option_map (λ it. it.seen) memory ≡ Some received → HasSeen rep_ts memory
+HasSeen-looked rep_ts received None at looked = λ it e. let none : None ≡ Some it = e in cc
 HasSeen-looked rep_ts received (Some memory) at looked = λ it e.
     let same : memory ≡ it = cc in
     let seen : memory.seen ≡ rep_ts = (let here : memory.seen ≡ received = cc in here) ∙ at in

@@ -17,7 +17,7 @@ module _ {Op : Type 0} (val_ts : List ℕ) where
     where
       go : (call : Call Op) → (le : Bool) → stamp_le call.prev val_ts ≡ le → not (stamp_le call.prev val_ts) ≡ true
           → le ≡ false
-      go call true is stays = let no : false ≡ true = rw is at stays in no
+      go call true is stays = let no : false ≡ true = rw is at stays in cc
       go call false is stays = refl
 
   -- all of them stay
