@@ -1,130 +1,27 @@
 -- The index of calls follows the items.
-use Rattle.std.proofs.Common.{◌≡◌, ◌≢◌, ◌≤◌, ◌⊎◌, inl, inr, ℕ, suc, Bool, true, false, cond, List, [], ◌∷◌, length, get_or, map, filter}
-use Rattle.std.proofs.Common.{refl, sym, ap, ◌∙◌, subst, arith, eqb-true, eq-eqb, not}
-use Rattle.std.specs.Prelude.{◌==◌, ◌&&◌, ◌||◌, insert}
+use Rattle.std.proofs.Common.{◌≡◌, ◌≢◌, ◌≤◌, ℕ, suc, Bool, true, false, cond, List, [], ◌∷◌, length}
+use Rattle.std.proofs.Common.{get_or, map, filter}
+use Rattle.std.proofs.Common.{refl, sym, ap, ◌∙◌, subst, arith, not}
+use Rattle.std.specs.Prelude.{insert}
 use Rattle.std.specs.List.Sorted.{IsPartitionPoint}
 use Rattle.std.specs.List.{AllByRecursion}
-use Rattle.lr_base.specs.Ascending.{cid_before}
 use Rattle.lr_base.specs.Insertion.{Ascends, insert_by, sorted_by}
-use Rattle.lr_base.specs.InsertionLaws.{ascends-inserted, each-inserted, inserted-commute, inserted-where, length-inserted}
+use Rattle.lr_base.specs.InsertionLaws.{ascends-inserted, each-inserted, inserted-commute, inserted-where}
+use Rattle.lr_base.specs.InsertionLaws.{length-inserted}
 use Rattle.lr_base.specs.Places.{AreInOrder}
-use Rattle.lr_base.specs.Rules.{is_before, same_cid}
+use Rattle.lr_base.specs.Rules.{is_before}
 use Rattle.lr_base.specs.declared.names.Cid.{Cid}
 use Rattle.lr_base.specs.declared.names.Spot.{Spot}
 use Rattle.lr_log.specs.Calls.{IsPlaced, entry_before, entry_of, index_of, insert_entry}
 use Rattle.lr_log.specs.declared.calls.CallSpot.{CallSpot}
 use Rattle.lr_log.specs.ItemLaws.{each-map}
 use Rattle.lr_log.specs.Items.{NoneAt}
+use Rattle.lr_log.proofs.Entries.{entry-behind, entry-once, entry-one, entry-trans, same_spot-apart, same_spot-refl}
 use Rattle.lr_log.specs.Rows.{AreRows, insert_item, same_spot, together}
-use Rattle.lr_log.proofs.RowLemmas.{AreRows-emptied, AreRows-filter, filter-all, in_order-together, together-emptied, together-filter}
+use Rattle.lr_log.proofs.RowLemmas.{AreRows-emptied, AreRows-filter, filter-all, in_order-together, together-emptied}
+use Rattle.lr_log.proofs.RowLemmas.{together-filter}
 use Rattle.lr_log.proofs.Searches.{each-at}
-use Rattle.lr_log.specs.SpotLaws.{before-apart, before-trans, neither-before}
-
--- ---- the order of entries
-
--- calls are ordered as spots are
-as_spot : Cid → Spot
-as_spot cid = record { place = cid.client; number = cid.seq }
-
-cid-same : (a b : Cid) → same_cid a b ≡ true → a ≡ b
-cid-same a b same = go (a.client == b.client) refl (a.seq == b.seq) refl same
-  where
-    go : (s : Bool) → (a.client == b.client) ≡ s → (t : Bool) → (a.seq == b.seq) ≡ t → (s && t) ≡ true → a ≡ b
-    go true first true second is =
-        λ i. record { client = eqb-true a.client b.client first i; seq = eqb-true a.seq b.seq second i }
-    go true first false second is = cc
-    go false first t second is = cc
-
-same-cid : (a b : Cid) → a ≡ b → same_cid a b ≡ true
-same-cid a b same =
-    let first : (a.client == b.client) ≡ true = eq-eqb a.client b.client (λ i. (same i).client) in
-    let second : (a.seq == b.seq) ≡ true = eq-eqb a.seq b.seq (λ i. (same i).seq) in
-    rw (first, second) refl
-
--- an entry before another is of a call before, or of the same call and at a spot before
-entry-holds : (a b : CallSpot) → entry_before a b ≡ true
-    → (cid_before a.cid b.cid ≡ true) ⊎ ((a.cid ≡ b.cid) × (is_before a.spot b.spot ≡ true))
-entry-holds a b before = go (cid_before a.cid b.cid) refl (same_cid a.cid b.cid) refl before
-  where
-    go : (s : Bool) → cid_before a.cid b.cid ≡ s → (t : Bool) → same_cid a.cid b.cid ≡ t → (s || (t && is_before a.spot b.spot)) ≡ true
-        → (cid_before a.cid b.cid ≡ true) ⊎ ((a.cid ≡ b.cid) × (is_before a.spot b.spot ≡ true))
-    go true first t same is = inl first
-    go false first true same is = inr (cid-same a.cid b.cid same, is)
-    go false first false same is = cc
-
-entry-shown : (a b : CallSpot) → (cid_before a.cid b.cid ≡ true) ⊎ ((a.cid ≡ b.cid) × (is_before a.spot b.spot ≡ true))
-    → entry_before a b ≡ true
-entry-shown a b (inl first) = rw first refl
-entry-shown a b (inr both) = go (cid_before a.cid b.cid) refl
-  where
-    go : (s : Bool) → cid_before a.cid b.cid ≡ s → entry_before a b ≡ true
-    go true first = rw first refl
-    go false first = rw (first, same-cid a.cid b.cid both.0, both.1) refl
-
-pub entry-trans : (a b c : CallSpot) → entry_before a b ≡ true → entry_before b c ≡ true → entry_before a c ≡ true
-unfolding as_spot
-entry-trans a b c one two = go (entry-holds a b one) (entry-holds b c two)
-  where
-    go : (cid_before a.cid b.cid ≡ true) ⊎ ((a.cid ≡ b.cid) × (is_before a.spot b.spot ≡ true))
-        → (cid_before b.cid c.cid ≡ true) ⊎ ((b.cid ≡ c.cid) × (is_before b.spot c.spot ≡ true)) → entry_before a c ≡ true
-    go (inl p) (inl q) = entry-shown a c (inl (before-trans (as_spot a.cid) (as_spot b.cid) (as_spot c.cid) p q))
-    go (inl p) (inr q) = entry-shown a c (inl (subst (λ x. cid_before a.cid x ≡ true) q.0 p))
-    go (inr p) (inl q) = entry-shown a c (inl (subst (λ x. cid_before x c.cid ≡ true) (sym p.0) q))
-    go (inr p) (inr q) = entry-shown a c (inr (p.0 ∙ q.0, before-trans a.spot b.spot c.spot p.1 q.1))
-
--- an entry isn't before itself
-entry-itself : (a : CallSpot) → entry_before a a ≡ true → ⊥
-unfolding as_spot
-entry-itself a before = go (entry-holds a a before)
-  where
-    go : (cid_before a.cid a.cid ≡ true) ⊎ ((a.cid ≡ a.cid) × (is_before a.spot a.spot ≡ true)) → ⊥
-    go (inl p) = before-apart (as_spot a.cid) (as_spot a.cid) p refl
-    go (inr p) = before-apart a.spot a.spot p.1 refl
-
-pub entry-once : (a b : CallSpot) → entry_before a b ≡ true → entry_before b a ≡ false
-entry-once a b before = go (entry_before b a) refl
-  where
-    go : (s : Bool) → entry_before b a ≡ s → entry_before b a ≡ false
-    go false is = is
-    go true is = absurd (entry-itself a (entry-trans a b a before is))
-
--- entries neither of which is before the other are the same
-entry-neither : (a b : CallSpot) → entry_before a b ≡ false → entry_before b a ≡ false → a ≡ b
-unfolding as_spot
-entry-neither a b one other =
-    let cids : as_spot a.cid ≡ as_spot b.cid = neither-before (as_spot a.cid) (as_spot b.cid) (lower a b one) (lower b a other) in
-    let cid : a.cid ≡ b.cid = λ i. record { client = (cids i).place; seq = (cids i).number } in
-    let spot : a.spot ≡ b.spot = neither-before a.spot b.spot (spots a b cid one) (spots b a (sym cid) other) in
-    λ i. record { cid = cid i; spot = spot i }
-  where
-    lower : (x y : CallSpot) → entry_before x y ≡ false → cid_before x.cid y.cid ≡ false
-    lower x y not_before = go (cid_before x.cid y.cid) refl
-      where
-        go : (s : Bool) → cid_before x.cid y.cid ≡ s → cid_before x.cid y.cid ≡ false
-        go false is = is
-        go true is = let no : entry_before x y ≡ true = entry-shown x y (inl is) in cc
-
-    spots : (x y : CallSpot) → x.cid ≡ y.cid → entry_before x y ≡ false → is_before x.spot y.spot ≡ false
-    spots x y same not_before = go (is_before x.spot y.spot) refl
-      where
-        go : (s : Bool) → is_before x.spot y.spot ≡ s → is_before x.spot y.spot ≡ false
-        go false is = is
-        go true is = let no : entry_before x y ≡ true = entry-shown x y (inr (same, is)) in cc
-
-pub entry-one : (a b : CallSpot) → entry_before a b ≡ entry_before b a → a ≡ b
-entry-one a b same = go (entry_before a b) refl
-  where
-    go : (s : Bool) → entry_before a b ≡ s → a ≡ b
-    go true is = absurd (entry-itself a (entry-trans a b a is (sym same ∙ is)))
-    go false is = entry-neither a b is (sym same ∙ is)
-
--- of two entries of other spots one is before the other
-pub entry-behind : (a b : CallSpot) → a.spot ≢ b.spot → entry_before a b ≡ false → entry_before b a ≡ true
-entry-behind a b apart is = go (entry_before b a) refl
-  where
-    go : (s : Bool) → entry_before b a ≡ s → entry_before b a ≡ true
-    go true other = other
-    go false other = absurd (apart (λ i. (entry-neither a b is other i).spot))
+use Rattle.lr_log.specs.SpotLaws.{before-apart}
 
 -- ---- insertion
 
@@ -150,7 +47,8 @@ module _ {A : Type 0} (before : A → A → Bool)
   each-kept P test [] all = tt
   each-kept P test (x ∷ xs) all = go (test x) (each-kept P test xs all.1)
     where
-      go : (s : Bool) → AllByRecursion P (filter test xs) → AllByRecursion P (cond s (x ∷ filter test xs) (filter test xs))
+      go : (s : Bool) → AllByRecursion P (filter test xs)
+          → AllByRecursion P (cond s (x ∷ filter test xs) (filter test xs))
       go true rest = (all.0, rest)
       go false rest = rest
 
@@ -158,28 +56,37 @@ module _ {A : Type 0} (before : A → A → Bool)
   pub filter-inserted : (test : A → Bool) (x : A) (xs : List A) → Ascends before xs
       → filter test (insert_by before x xs) ≡ cond (test x) (insert_by before x (filter test xs)) (filter test xs)
   filter-inserted test x [] all = refl
-  filter-inserted test x (y ∷ xs) all = go (before x y) refl (test x) refl (test y) refl (filter-inserted test x xs all.1)
+  filter-inserted test x (y ∷ xs) all = go (before x y) refl (test x) refl (test y) refl
+      (filter-inserted test x xs all.1)
     where
       go : (s : Bool) → before x y ≡ s → (t : Bool) → test x ≡ t → (u : Bool) → test y ≡ u
           → filter test (insert_by before x xs) ≡ cond (test x) (insert_by before x (filter test xs)) (filter test xs)
-          → filter test (insert_by before x (y ∷ xs)) ≡ cond (test x) (insert_by before x (filter test (y ∷ xs))) (filter test (y ∷ xs))
+          → filter test (insert_by before x (y ∷ xs)) ≡ cond (test x) (insert_by before x (filter test (y ∷ xs)))
+          (filter test (y ∷ xs))
       go true first true own u other rest =
           let least : insert_by before x (filter test (y ∷ xs)) ≡ x ∷ filter test (y ∷ xs) =
-          inserted-least before x (filter test (y ∷ xs)) (each-kept (λ z. before x z ≡ true) test (y ∷ xs)
-          (first, each-map (λ z. before y z ≡ true) (λ z. before x z ≡ true) xs (λ z next. trans x y z first next) all.0)) in
+          inserted-least before x (filter test (y ∷ xs)) (each-kept (λ z. before x z ≡ true) test (y ∷ xs) (
+            first,
+            each-map (λ z. before y z ≡ true) (λ z. before x z ≡ true) xs (λ z next. trans x y z first next)
+                all.0,
+          )) in
           rw (first, own) (sym least)
       go true first false own u other rest = rw (first, own) refl
       go false first true own true other rest =
-          let below : filter test (insert_by before x xs) ≡ insert_by before x (filter test xs) = rest ∙ ap (λ b. cond b (insert_by before x (filter test xs)) (filter test xs)) own in
+          let below : filter test (insert_by before x xs) ≡ insert_by before x (filter test xs) = rest ∙ ap
+          (λ b. cond b (insert_by before x (filter test xs)) (filter test xs)) own in
           rw (first, own, other) (rw first (ap (λ (l : List A). y ∷ l) below))
       go false first true own false other rest =
-          let below : filter test (insert_by before x xs) ≡ insert_by before x (filter test xs) = rest ∙ ap (λ b. cond b (insert_by before x (filter test xs)) (filter test xs)) own in
+          let below : filter test (insert_by before x xs) ≡ insert_by before x (filter test xs) = rest ∙ ap
+          (λ b. cond b (insert_by before x (filter test xs)) (filter test xs)) own in
           rw (first, own, other) below
       go false first false own true other rest =
-          let below : filter test (insert_by before x xs) ≡ filter test xs = rest ∙ ap (λ b. cond b (insert_by before x (filter test xs)) (filter test xs)) own in
+          let below : filter test (insert_by before x xs) ≡ filter test xs = rest ∙ ap
+          (λ b. cond b (insert_by before x (filter test xs)) (filter test xs)) own in
           rw (first, own, other) (ap (λ (l : List A). y ∷ l) below)
       go false first false own false other rest =
-          let below : filter test (insert_by before x xs) ≡ filter test xs = rest ∙ ap (λ b. cond b (insert_by before x (filter test xs)) (filter test xs)) own in
+          let below : filter test (insert_by before x xs) ≡ filter test xs = rest ∙ ap
+          (λ b. cond b (insert_by before x (filter test xs)) (filter test xs)) own in
           rw (first, own, other) below
 
 -- ---- the index
@@ -197,23 +104,28 @@ module _ {A : Type 0} (spot_of : A → Spot) (cid_of : A → Cid) where
       → AllByRecursion P (index_of spot_of cid_of items)
   each-entry P items all = each-sorted entry_before P (map (entry_of spot_of cid_of) items) (mapped items all)
     where
-      mapped : (xs : List A) → AllByRecursion (λ x. P (entry_of spot_of cid_of x)) xs → AllByRecursion P (map (entry_of spot_of cid_of) xs)
+      mapped : (xs : List A) → AllByRecursion (λ x. P (entry_of spot_of cid_of x)) xs
+          → AllByRecursion P (map (entry_of spot_of cid_of) xs)
       mapped [] each = tt
       mapped (x ∷ xs) each = (each.0, mapped xs each.1)
 
   -- an item more is an entry more
   pub index-inserted : (x : A) (items : List A)
-      → index_of spot_of cid_of (insert_item spot_of x items) ≡ insert_entry (entry_of spot_of cid_of x) (index_of spot_of cid_of items)
+      → index_of spot_of cid_of (insert_item spot_of x items) ≡ insert_entry (entry_of spot_of cid_of x)
+      (index_of spot_of cid_of items)
   index-inserted x [] = refl
   index-inserted x (y ∷ items) = go (is_before (spot_of x) (spot_of y)) (index-inserted x items)
     where
-      go : (s : Bool) → index_of spot_of cid_of (insert_item spot_of x items) ≡ insert_entry (entry_of spot_of cid_of x) (index_of spot_of cid_of items)
+      go : (s : Bool)
+          → index_of spot_of cid_of (insert_item spot_of x items) ≡ insert_entry (entry_of spot_of cid_of x)
+          (index_of spot_of cid_of items)
           → index_of spot_of cid_of (cond s (x ∷ y ∷ items) (y ∷ insert_item spot_of x items))
           ≡ insert_entry (entry_of spot_of cid_of x) (index_of spot_of cid_of (y ∷ items))
       go true rest = refl
       go false rest =
           ap (insert_entry (entry_of spot_of cid_of y)) rest
-          ∙ inserted-commute entry_before entry-one entry-trans (entry_of spot_of cid_of y) (entry_of spot_of cid_of x) (index_of spot_of cid_of items)
+          ∙ inserted-commute entry_before entry-one entry-trans (entry_of spot_of cid_of y)
+          (entry_of spot_of cid_of x) (index_of spot_of cid_of items)
 
   -- the entries ascend
   pub index-ascends : (items : List A) → AreInOrder spot_of items → Ascends entry_before (index_of spot_of cid_of items)
@@ -234,15 +146,22 @@ module _ {A : Type 0} (spot_of : A → Spot) (cid_of : A → Cid) where
 
   -- the entries of the items whose spots pass a test
   pub index-filter : (test : Spot → Bool) (items : List A) → AreInOrder spot_of items
-      → filter (λ e. test e.spot) (index_of spot_of cid_of items) ≡ index_of spot_of cid_of (filter (λ x. test (spot_of x)) items)
+      → filter (λ e. test e.spot) (index_of spot_of cid_of items) ≡ index_of spot_of cid_of
+      (filter (λ x. test (spot_of x)) items)
   index-filter test [] order = refl
   index-filter test (x ∷ items) order =
-      filter-inserted entry_before entry-trans (λ e. test e.spot) (entry_of spot_of cid_of x) (index_of spot_of cid_of items) (index-ascends items order.1)
+      filter-inserted entry_before entry-trans (λ e. test e.spot) (entry_of spot_of cid_of x)
+      (index_of spot_of cid_of items) (index-ascends items order.1)
       ∙ go (test (spot_of x)) (index-filter test items order.1)
     where
-      go : (s : Bool) → filter (λ e. test e.spot) (index_of spot_of cid_of items) ≡ index_of spot_of cid_of (filter (λ y. test (spot_of y)) items)
-          → cond s (insert_entry (entry_of spot_of cid_of x) (filter (λ e. test e.spot) (index_of spot_of cid_of items))) (filter (λ e. test e.spot) (index_of spot_of cid_of items))
-          ≡ index_of spot_of cid_of (cond s (x ∷ filter (λ y. test (spot_of y)) items) (filter (λ y. test (spot_of y)) items))
+      go : (s : Bool)
+          → filter (λ e. test e.spot) (index_of spot_of cid_of items) ≡ index_of spot_of cid_of
+          (filter (λ y. test (spot_of y)) items)
+          → cond s (insert_entry (entry_of spot_of cid_of x)
+          (filter (λ e. test e.spot) (index_of spot_of cid_of items))) (filter (λ e. test e.spot)
+          (index_of spot_of cid_of items))
+          ≡ index_of spot_of cid_of (cond s (x ∷ filter (λ y. test (spot_of y)) items)
+          (filter (λ y. test (spot_of y)) items))
       go true rest = ap (insert_entry (entry_of spot_of cid_of x)) rest
       go false rest = rest
 
@@ -250,14 +169,16 @@ module _ {A : Type 0} (spot_of : A → Spot) (cid_of : A → Cid) where
 
 -- an entry goes where a search for it ends
 pub inserted-entry : (entry : CallSpot) (listed own entries new : List CallSpot) (at : ℕ) → listed ≡ own → own ≡ entries
-    → at ≤ length listed → IsPartitionPoint (λ e. entry_before e entry ≡ true) (λ e. entry_before e entry ≡ false) listed at
+    → at ≤ length listed → IsPartitionPoint (λ e. entry_before e entry ≡ true) (λ e. entry_before e entry ≡ false)
+    listed at
     → NoneAt (λ e. e.spot) entry.spot entries → new ≡ insert own at entry → new ≡ insert_entry entry entries
 inserted-entry entry listed own entries new at lists is most point free put =
     put ∙ ap (λ l. insert l at entry) (sym lists)
     ∙ inserted-where entry_before entry listed at entry entry most
     (λ k low. entry-once (get_or listed k entry) entry (point.0 k entry (omega arith) low))
     (λ low. entry-behind (get_or listed at entry) entry
-    (each-at (λ e. e.spot ≢ entry.spot) listed at entry low (subst (NoneAt (λ e. e.spot) entry.spot) (sym (lists ∙ is)) free))
+    (each-at (λ e. e.spot ≢ entry.spot) listed at entry low
+    (subst (NoneAt (λ e. e.spot) entry.spot) (sym (lists ∙ is)) free))
     (point.1 at entry (omega arith) low))
     ∙ ap (insert_entry entry) (lists ∙ is)
 
@@ -267,29 +188,15 @@ module _ {A : Type 0} (before : A → A → Bool)
   pub removed-inserted : (test : A → Bool) (x : A) (xs : List A) → Ascends before xs → test x ≡ false
       → AllByRecursion (λ y. test y ≡ true) xs → filter test (insert_by before x xs) ≡ xs
   removed-inserted test x xs all own others =
-      filter-inserted before trans test x xs all ∙ ap (λ b. cond b (insert_by before x (filter test xs)) (filter test xs)) own
+      filter-inserted before trans test x xs all ∙ ap
+      (λ b. cond b (insert_by before x (filter test xs)) (filter test xs)) own
       ∙ filter-all test xs others
-
--- a spot is itself, and not another
-pub same_spot-refl : (a : Spot) → same_spot a a ≡ true
-same_spot-refl a =
-    let first : (a.place == a.place) ≡ true = eq-eqb a.place a.place refl in
-    let second : (a.number == a.number) ≡ true = eq-eqb a.number a.number refl in
-    rw (first, second) refl
-
-pub same_spot-apart : (a b : Spot) → a ≢ b → same_spot a b ≡ false
-same_spot-apart a b apart = go (a.place == b.place) refl (a.number == b.number) refl
-  where
-    go : (s : Bool) → (a.place == b.place) ≡ s → (t : Bool) → (a.number == b.number) ≡ t → same_spot a b ≡ false
-    go true first true second =
-        absurd (apart (λ i. record { place = eqb-true a.place b.place first i; number = eqb-true a.number b.number second i }))
-    go true first false second = rw (first, second) refl
-    go false first t second = rw first refl
 
 module _ {A : Type 0} (spot_of : A → Spot) (cid_of : A → Cid) where
   -- rows and index with one more item
   pub IsPlaced-more : (x : A) (rows new : List (List A)) (index new_index : List CallSpot) (entry : CallSpot)
-      → IsPlaced spot_of cid_of rows index → AreRows spot_of 0 new → together new ≡ insert_item spot_of x (together rows)
+      → IsPlaced spot_of cid_of rows index → AreRows spot_of 0 new → together new ≡ insert_item spot_of x
+      (together rows)
       → entry ≡ entry_of spot_of cid_of x → new_index ≡ insert_entry entry index → IsPlaced spot_of cid_of new new_index
   IsPlaced-more x rows new index new_index entry is are put own put_entry = record {
     placed = are;
@@ -317,7 +224,8 @@ module _ {A : Type 0} (spot_of : A → Spot) (cid_of : A → Cid) where
   }
 
   -- and emptied
-  pub IsPlaced-emptied : (rows new : List (List A)) (new_index : List CallSpot) → new ≡ map (λ row. []) rows → new_index ≡ []
+  pub IsPlaced-emptied : (rows new : List (List A)) (new_index : List CallSpot) → new ≡ map (λ row. []) rows
+      → new_index ≡ []
       → IsPlaced spot_of cid_of new new_index
   IsPlaced-emptied rows new new_index emptied none = record {
     placed = subst (AreRows spot_of 0) (sym emptied) (AreRows-emptied spot_of 0 rows);
@@ -325,19 +233,22 @@ module _ {A : Type 0} (spot_of : A → Spot) (cid_of : A → Cid) where
   }
 
   -- no entry is at the spot of no item
-  pub index-free : (spot : Spot) (rows : List (List A)) (items : List A) (index : List CallSpot) → IsPlaced spot_of cid_of rows index
+  pub index-free : (spot : Spot) (rows : List (List A)) (items : List A) (index : List CallSpot)
+      → IsPlaced spot_of cid_of rows index
       → together rows ≡ items → NoneAt spot_of spot items → NoneAt (λ e. e.spot) spot index
   index-free spot rows items index is view free =
       subst (NoneAt (λ e. e.spot) spot) (ap (index_of spot_of cid_of) (sym view) ∙ sym is.indexed)
       (each-entry spot_of cid_of (λ e. e.spot ≢ spot) items free)
 
-  pub index-in_order : (rows : List (List A)) (index : List CallSpot) → IsPlaced spot_of cid_of rows index → Ascends entry_before index
+  pub index-in_order : (rows : List (List A)) (index : List CallSpot) → IsPlaced spot_of cid_of rows index
+      → Ascends entry_before index
   index-in_order rows index is =
       subst (Ascends entry_before) (sym is.indexed)
       (index-ascends spot_of cid_of (together rows) (in_order-together spot_of 0 rows is.placed))
 
 -- an entry that was inserted is taken out again
-pub removed-entry : (entry : CallSpot) (entries : List CallSpot) → Ascends entry_before entries → NoneAt (λ e. e.spot) entry.spot entries
+pub removed-entry : (entry : CallSpot) (entries : List CallSpot) → Ascends entry_before entries
+    → NoneAt (λ e. e.spot) entry.spot entries
     → filter (λ e. not (same_spot e.spot entry.spot)) (insert_entry entry entries) ≡ entries
 removed-entry entry entries all free =
     removed-inserted entry_before entry-trans (λ e. not (same_spot e.spot entry.spot)) entry entries all
@@ -347,7 +258,8 @@ removed-entry entry entries all free =
 module _ {A : Type 0} (spot_of : A → Spot) (cid_of : A → Cid) where
   -- the index after an entry was inserted and taken out
   pub inserted-again : (entry : CallSpot) (rows : List (List A)) (items : List A) (index more again : List CallSpot)
-      → IsPlaced spot_of cid_of rows index → together rows ≡ items → NoneAt spot_of entry.spot items → more ≡ insert_entry entry index
+      → IsPlaced spot_of cid_of rows index → together rows ≡ items → NoneAt spot_of entry.spot items → more ≡
+      insert_entry entry index
       → again ≡ filter (λ e. not (same_spot e.spot entry.spot)) more → again ≡ index
   inserted-again entry rows items index more again is view free put out =
       out ∙ ap (filter (λ e. not (same_spot e.spot entry.spot))) put

@@ -2,6 +2,7 @@ mod Parts
 mod Searches
 mod RowLemmas
 mod CallLemmas
+mod Entries
 mod Finding
 mod Taking
 mod Logs

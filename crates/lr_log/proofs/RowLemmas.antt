@@ -1,5 +1,6 @@
 -- Items that are kept place by place stand in the order of their spots.
-use Rattle.std.proofs.Common.{◌≡◌, ◌≢◌, ◌<◌, ◌≤◌, ◌+◌, ℕ, zero, suc, Bool, true, false, cond, List, [], ◌∷◌, ◌++◌, length, get_or, set, take, drop, map, filter}
+use Rattle.std.proofs.Common.{◌≡◌, ◌≢◌, ◌<◌, ◌≤◌, ◌+◌, ℕ, zero, suc, Bool, true, false, cond, List, [], ◌∷◌, ◌++◌}
+use Rattle.std.proofs.Common.{length, get_or, set, take, drop, map, filter}
 use Rattle.std.proofs.Common.{refl, sym, ap, ◌∙◌, subst, arith, append_assoc, inl, eq-eqb, ne_eqb}
 use Rattle.std.specs.Prelude.{◌==◌}
 use Rattle.std.specs.List.{AllByRecursion}
@@ -17,7 +18,8 @@ use Rattle.lr_log.specs.SpotLaws.{before-once, before-shown}
 
 module _ {A : Type 0} where
   -- what holds of each element of two lists holds of each of both
-  pub each-append : (P : A → Type 0) (xs ys : List A) → AllByRecursion P xs → AllByRecursion P ys → AllByRecursion P (xs ++ ys)
+  pub each-append : (P : A → Type 0) (xs ys : List A) → AllByRecursion P xs → AllByRecursion P ys
+      → AllByRecursion P (xs ++ ys)
   each-append P [] ys all rest = rest
   each-append P (x ∷ xs) ys all rest = (all.0, each-append P xs ys all.1 rest)
 
@@ -33,7 +35,8 @@ module _ {A : Type 0} where
   filter-append test (x ∷ xs) ys = go (test x) (filter-append test xs ys)
     where
       go : (s : Bool) → filter test (xs ++ ys) ≡ filter test xs ++ filter test ys
-          → cond s (x ∷ filter test (xs ++ ys)) (filter test (xs ++ ys)) ≡ cond s (x ∷ filter test xs) (filter test xs) ++ filter test ys
+          → cond s (x ∷ filter test (xs ++ ys)) (filter test (xs ++ ys)) ≡ cond s (x ∷ filter test xs)
+          (filter test xs) ++ filter test ys
       go true rest = ap (λ (l : List A). x ∷ l) rest
       go false rest = rest
 
@@ -79,10 +82,12 @@ module _ {A : Type 0} (spot_of : A → Spot) where
       (each-together P (suc place) rows are.1 (λ x le. high x (omega arith)))
 
   -- put together, the items stand in their order
-  pub in_order-together : (place : ℕ) (rows : List (List A)) → AreRows spot_of place rows → AreInOrder spot_of (together rows)
+  pub in_order-together : (place : ℕ) (rows : List (List A)) → AreRows spot_of place rows
+      → AreInOrder spot_of (together rows)
   in_order-together place [] are = tt
   in_order-together place (row ∷ rows) are =
-      ascends-append (λ a b. is_before (spot_of a) (spot_of b)) row (together rows) are.0.1 (in_order-together (suc place) rows are.1)
+      ascends-append (λ a b. is_before (spot_of a) (spot_of b)) row (together rows) are.0.1
+      (in_order-together (suc place) rows are.1)
       (each-map (λ x. (spot_of x).place ≡ place) _ row
       (λ x at. each-together (λ y. is_before (spot_of x) (spot_of y) ≡ true) (suc place) rows are.1
       (λ y le. before-shown (spot_of x) (spot_of y) (inl (omega arith)))) are.0.0)
@@ -98,7 +103,8 @@ module _ {A : Type 0} (spot_of : A → Spot) where
     where
       own : items_at spot_of (place + 0) row ≡ row
       own = filter-all (λ x. (spot_of x).place == (place + 0)) row
-          (each-map (λ x. (spot_of x).place ≡ place) _ row (λ x at. eq-eqb (spot_of x).place (place + 0) (omega arith)) are.0.0)
+          (each-map (λ x. (spot_of x).place ≡ place) _ row
+          (λ x at. eq-eqb (spot_of x).place (place + 0) (omega arith)) are.0.0)
 
       others : items_at spot_of (place + 0) (together rows) ≡ []
       others = filter-none (λ x. (spot_of x).place == (place + 0)) (together rows)
@@ -111,7 +117,8 @@ module _ {A : Type 0} (spot_of : A → Spot) where
     where
       none : items_at spot_of (place + suc k) row ≡ []
       none = filter-none (λ x. (spot_of x).place == (place + suc k)) row
-          (each-map (λ x. (spot_of x).place ≡ place) _ row (λ x at. ne_eqb (spot_of x).place (place + suc k) (λ e. omega arith)) are.0.0)
+          (each-map (λ x. (spot_of x).place ≡ place) _ row
+          (λ x at. ne_eqb (spot_of x).place (place + suc k) (λ e. omega arith)) are.0.0)
 
       next : place + suc k ≡ suc place + k
       next = omega arith
@@ -135,22 +142,26 @@ module _ {A : Type 0} (spot_of : A → Spot) where
   pub AreRows-at : (place k : ℕ) (rows : List (List A)) (d : List A) → AreRows spot_of place rows → k < length rows
       → IsRow spot_of (place + k) (get_or rows k d)
   AreRows-at place k [] d are within = absurd (omega arith)
-  AreRows-at place zero (row ∷ rows) d are within = let e : place ≡ place + 0 = omega arith in subst (λ n. IsRow spot_of n row) e are.0
+  AreRows-at place zero (row ∷ rows) d are within = let e : place ≡ place + 0 = omega arith in subst
+      (λ n. IsRow spot_of n row) e are.0
   AreRows-at place (suc k) (row ∷ rows) d are within =
       let e : suc place + k ≡ place + suc k = omega arith in
       subst (λ n. IsRow spot_of n (get_or rows k d)) e (AreRows-at (suc place) k rows d are.1 (omega arith))
 
   -- rows one of which was changed
-  pub AreRows-set : (place k : ℕ) (rows : List (List A)) (row : List A) → AreRows spot_of place rows → IsRow spot_of (place + k) row
+  pub AreRows-set : (place k : ℕ) (rows : List (List A)) (row : List A) → AreRows spot_of place rows
+      → IsRow spot_of (place + k) row
       → AreRows spot_of place (set rows k row)
   AreRows-set place k [] row are is = tt
-  AreRows-set place zero (x ∷ rows) row are is = (let e : place + 0 ≡ place = omega arith in subst (λ n. IsRow spot_of n row) e is, are.1)
+  AreRows-set place zero (x ∷ rows) row are is =
+      (let e : place + 0 ≡ place = omega arith in subst (λ n. IsRow spot_of n row) e is, are.1)
   AreRows-set place (suc k) (x ∷ rows) row are is =
       let e : place + suc k ≡ suc place + k = omega arith in
       (are.0, AreRows-set (suc place) k rows row are.1 (subst (λ n. IsRow spot_of n row) e is))
 
   -- rows with an empty one behind them
-  pub AreRows-more : (place : ℕ) (rows : List (List A)) → AreRows spot_of place rows → AreRows spot_of place (rows ++ [] ∷ [])
+  pub AreRows-more : (place : ℕ) (rows : List (List A)) → AreRows spot_of place rows
+      → AreRows spot_of place (rows ++ [] ∷ [])
   AreRows-more place [] are = ((tt, tt), tt)
   AreRows-more place (row ∷ rows) are = (are.0, AreRows-more (suc place) rows are.1)
 
@@ -168,9 +179,11 @@ module _ {A : Type 0} (spot_of : A → Spot) where
 
 module _ {A : Type 0} where
   -- together they are the others, put together
-  pub together-filter : (test : A → Bool) (rows : List (List A)) → together (map (filter test) rows) ≡ filter test (together rows)
+  pub together-filter : (test : A → Bool) (rows : List (List A))
+      → together (map (filter test) rows) ≡ filter test (together rows)
   together-filter test [] = refl
-  together-filter test (row ∷ rows) = ap (λ l. filter test row ++ l) (together-filter test rows) ∙ sym (filter-append test row (together rows))
+  together-filter test (row ∷ rows) = ap (λ l. filter test row ++ l) (together-filter test rows) ∙ sym
+      (filter-append test row (together rows))
 
   pub together-more : (rows : List (List A)) (row : List A) → together (rows ++ row ∷ []) ≡ together rows ++ row
   together-more [] row = append-none row
@@ -185,7 +198,8 @@ module _ {A : Type 0} where
       ap (set now k) (changed ∙ ap f (sym is)) ∙ map_over_more f rows now k row within so_far is
 
   -- what holds of all items holds of those of a row
-  pub each-row : (P : A → Type 0) (rows : List (List A)) (k : ℕ) (d : List A) → k < length rows → AllByRecursion P (together rows)
+  pub each-row : (P : A → Type 0) (rows : List (List A)) (k : ℕ) (d : List A) → k < length rows
+      → AllByRecursion P (together rows)
       → AllByRecursion P (get_or rows k d)
   each-row P [] k d within all = absurd (omega arith)
   each-row P (row ∷ rows) zero d within all = front row all
@@ -210,12 +224,15 @@ module _ {A : Type 0} (spot_of : A → Spot) where
   AreRows-emptied place (row ∷ rows) = ((tt, tt), AreRows-emptied (suc place) rows)
 
   -- the row of an item has its items in order
-  pub row-in_order : (rows : List (List A)) (k : ℕ) (row d : List A) → AreRows spot_of 0 rows → k < length rows → row ≡ get_or rows k d
+  pub row-in_order : (rows : List (List A)) (k : ℕ) (row d : List A) → AreRows spot_of 0 rows → k < length rows
+      → row ≡ get_or rows k d
       → AreInOrder spot_of row
-  row-in_order rows k row d are within is = subst (AreInOrder spot_of) (sym is) (AreRows-at spot_of 0 k rows d are within).1
+  row-in_order rows k row d are within is = subst (AreInOrder spot_of) (sym is)
+      (AreRows-at spot_of 0 k rows d are within).1
 
   -- an item went into the row of its place
-  pub put-together : (x : A) (rows made : List (List A)) (k : ℕ) (row new d : List A) → AreRows spot_of 0 made → k < length made
+  pub put-together : (x : A) (rows made : List (List A)) (k : ℕ) (row new d : List A) → AreRows spot_of 0 made
+      → k < length made
       → row ≡ get_or made k d → k ≡ (spot_of x).place → together made ≡ together rows → new ≡ insert_item spot_of x row
       → together (set made k new) ≡ insert_item spot_of x (together rows)
   put-together x rows made k row new d are within is at same put =
@@ -228,7 +245,8 @@ module _ {A : Type 0} (spot_of : A → Spot) where
   put-rows x made k row new d are within is at free put =
       let own = subst (IsRow spot_of (0 + k)) (sym is) (AreRows-at spot_of 0 k made d are within) in
       AreRows-set spot_of 0 k made new are (subst (IsRow spot_of (0 + k)) (sym put) (
-        each-inserted (λ a b. false) (λ a b. is_before (spot_of a) (spot_of b)) x (λ y. (spot_of y).place ≡ 0 + k) row (omega arith) own.0,
+        each-inserted (λ a b. false) (λ a b. is_before (spot_of a) (spot_of b)) x (λ y. (spot_of y).place ≡ 0 + k)
+            row (omega arith) own.0,
         in_order-inserted spot_of x row free own.1,
       ))
 
@@ -240,7 +258,8 @@ module _ {A : Type 0} (spot_of : A → Spot) where
       (each-row (λ y. spot_of y ≢ spot_of x) made k d within (subst (NoneAt spot_of (spot_of x)) (sym same) free))
 
   -- the items of a place, at its row
-  pub items_at-row : (k : ℕ) (rows : List (List A)) (row d : List A) → AreRows spot_of 0 rows → k < length rows → row ≡ get_or rows k d
+  pub items_at-row : (k : ℕ) (rows : List (List A)) (row d : List A) → AreRows spot_of 0 rows → k < length rows
+      → row ≡ get_or rows k d
       → row ≡ items_at spot_of k (together rows)
   items_at-row k rows row d are within is =
       is ∙ get_or_default rows k d [] within ∙ sym (items_at-together spot_of 0 k rows are)
@@ -257,3 +276,15 @@ module _ {A : Type 0} (spot_of : A → Spot) where
       none [] n le = refl
       none (x ∷ xs) zero le = absurd (omega arith)
       none (x ∷ xs) (suc n) le = none xs n (omega arith)
+
+  -- an empty row was pushed
+  pub more-rows : (rows new : List (List A)) (row : List A) → new ≡ rows ++ row ∷ [] → row ≡ [] → AreRows spot_of 0 rows
+      → AreRows spot_of 0 new
+  more-rows rows new row pushed empty are =
+      subst (AreRows spot_of 0) (sym (pushed ∙ ap (λ r. rows ++ r ∷ []) empty)) (AreRows-more spot_of 0 rows are)
+
+-- and the items are the same
+pub more-same : {A : Type 0} (rows new : List (List A)) (row : List A) → new ≡ rows ++ row ∷ [] → row ≡ []
+    → together new ≡ together rows
+more-same rows new row pushed empty =
+    ap together (pushed ∙ ap (λ r. rows ++ r ∷ []) empty) ∙ together-more rows [] ∙ append-none (together rows)

@@ -40,7 +40,8 @@ module _ {A : Type 0} where
   each-filter P test [] all = tt
   each-filter P test (x ∷ xs) all = go (test x) (each-filter P test xs all.1)
     where
-      go : (s : Bool) → AllByRecursion P (filter test xs) → AllByRecursion P (cond s (x ∷ filter test xs) (filter test xs))
+      go : (s : Bool) → AllByRecursion P (filter test xs)
+          → AllByRecursion P (cond s (x ∷ filter test xs) (filter test xs))
       go true rest = (all.0, rest)
       go false rest = rest
 
@@ -81,7 +82,8 @@ module _ {A : Type 0} where
 module _ {A B : Type 0} where
   -- what holds of each pair from two lists
   pub each-swap : (R : A → B → Type 0) (xs : List A) (ys : List B)
-      → AllByRecursion (λ x. AllByRecursion (λ y. R x y) ys) xs → AllByRecursion (λ y. AllByRecursion (λ x. R x y) xs) ys
+      → AllByRecursion (λ x. AllByRecursion (λ y. R x y) ys) xs → AllByRecursion
+      (λ y. AllByRecursion (λ x. R x y) xs) ys
   each-swap R [] ys all = each-all (λ y. AllByRecursion (λ x. R x y) []) ys (λ y. tt)
   each-swap R (x ∷ xs) ys all =
       each-both (λ y. R x y) (λ y. AllByRecursion (λ z. R z y) xs) _ ys (λ y own others. (own, others)) all.0
@@ -134,7 +136,8 @@ module _ {Op : Type 0} where
   IsOrdered-ack a log free ordered = record {
     in_order = ordered.in_order;
     acks_in_order = in_order-inserted (λ (b : LogAck). b.spot) a log.acks free.acks ordered.acks_in_order;
-    apart = each-both (λ (v : LogUpdate Op). v.spot ≢ a.spot) (λ (v : LogUpdate Op). NoneAt (λ b. b.spot) v.spot log.acks)
+    apart = each-both (λ (v : LogUpdate Op). v.spot ≢ a.spot)
+        (λ (v : LogUpdate Op). NoneAt (λ b. b.spot) v.spot log.acks)
         (λ (v : LogUpdate Op). NoneAt (λ b. b.spot) v.spot (insert_ack a log.acks)) log.updates
         (λ v other none. each-inserted (λ b c. false) (λ (b c : LogAck). is_before b.spot c.spot) a
         (λ (b : LogAck). b.spot ≢ v.spot) log.acks (λ e. other (sym e)) none)
@@ -145,20 +148,24 @@ module _ {Op : Type 0} where
   pub IsOrdered-all : (log more : Items Op) → IsOrdered log → IsOrdered more → CanTake log more
       → IsOrdered (items_of (insert_updates more.updates log.updates) (insert_acks more.acks log.acks))
   IsOrdered-all log more ordered own free = record {
-    in_order = in_order-inserted_all (λ (u : LogUpdate Op). u.spot) more.updates log.updates own.in_order ordered.in_order
+    in_order = in_order-inserted_all (λ (u : LogUpdate Op). u.spot) more.updates log.updates own.in_order
+        ordered.in_order
         (each-map (λ (u : LogUpdate Op). IsFree log u.spot) _ more.updates (λ u is. is.updates) free.updates);
-    acks_in_order = in_order-inserted_all (λ (a : LogAck). a.spot) more.acks log.acks own.acks_in_order ordered.acks_in_order
+    acks_in_order = in_order-inserted_all (λ (a : LogAck). a.spot) more.acks log.acks own.acks_in_order
+        ordered.acks_in_order
         (each-map (λ (a : LogAck). IsFree log a.spot) _ more.acks (λ a is. is.acks) free.acks);
     apart = each-inserted_all (λ (a b : LogUpdate Op). is_before a.spot b.spot)
         (λ (u : LogUpdate Op). NoneAt (λ a. a.spot) u.spot (insert_acks more.acks log.acks)) more.updates log.updates
         (each-both (λ (u : LogUpdate Op). NoneAt (λ a. a.spot) u.spot more.acks)
-        (λ (u : LogUpdate Op). NoneAt (λ a. a.spot) u.spot log.acks) _ more.updates (λ u new old. acks u.spot new old) own.apart
+        (λ (u : LogUpdate Op). NoneAt (λ a. a.spot) u.spot log.acks) _ more.updates
+        (λ u new old. acks u.spot new old) own.apart
         (each-map (λ (u : LogUpdate Op). IsFree log u.spot) _ more.updates (λ u is. is.acks) free.updates))
         (each-both (λ (u : LogUpdate Op). NoneAt (λ a. a.spot) u.spot more.acks)
         (λ (u : LogUpdate Op). NoneAt (λ a. a.spot) u.spot log.acks) _ log.updates (λ u new old. acks u.spot new old)
         (each-swap (λ (a : LogAck) (u : LogUpdate Op). a.spot ≢ u.spot) more.acks log.updates
         (each-map (λ (a : LogAck). IsFree log a.spot) _ more.acks
-        (λ a is. each-map (λ (u : LogUpdate Op). u.spot ≢ a.spot) _ log.updates (λ u other same. other (sym same)) is.updates)
+        (λ a is. each-map (λ (u : LogUpdate Op). u.spot ≢ a.spot) _ log.updates (λ u other same. other (sym same))
+        is.updates)
         free.acks)) ordered.apart);
   }
     where
@@ -182,13 +189,15 @@ module _ {Op : Type 0} where
   -- what is new of an ordered log
   pub IsOrdered-new : (rep_ts : List ℕ) (log : Items Op) → IsOrdered log
       → IsOrdered (items_of (new_updates rep_ts log.updates) (new_acks rep_ts log.acks))
-  IsOrdered-new rep_ts log ordered = IsOrdered-filter (λ u. is_new rep_ts u.spot) (λ a. is_new rep_ts a.spot) log ordered
+  IsOrdered-new rep_ts log ordered = IsOrdered-filter (λ u. is_new rep_ts u.spot) (λ a. is_new rep_ts a.spot) log
+      ordered
 
   -- a spot that is new where all of a log was received is free in the log
   pub IsFree-new : (rep_ts : List ℕ) (spot : Spot) (log : Items Op) → AllReceived rep_ts log.updates
       → AllAcksReceived rep_ts log.acks → is_new rep_ts spot ≡ true → IsFree log spot
   IsFree-new rep_ts spot log received acks_received new = record {
-    updates = each-map (λ (u : LogUpdate Op). is_new rep_ts u.spot ≡ false) (λ (u : LogUpdate Op). u.spot ≢ spot) log.updates
+    updates = each-map (λ (u : LogUpdate Op). is_new rep_ts u.spot ≡ false) (λ (u : LogUpdate Op). u.spot ≢ spot)
+        log.updates
         (λ u old same. let no : false ≡ true = sym old ∙ (ap (is_new rep_ts) same ∙ new) in cc)
         (each-by_index (λ (u : LogUpdate Op). is_new rep_ts u.spot ≡ false) log.updates received);
     acks = each-map (λ (a : LogAck). is_new rep_ts a.spot ≡ false) (λ (a : LogAck). a.spot ≢ spot) log.acks

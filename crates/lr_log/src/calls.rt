@@ -1,6 +1,7 @@
 //! An index from calls to the spots of their items.
 ghost use Rattle.std.specs.Prelude.{◌≡◌, ◌<◌, ◌≤◌, ◌^◌, [], not, filter, find, length, true, false, OnOk, OnErr, IfOk};
 ghost use Rattle.std.specs.List.Sorted.{IsPartitionPoint};
+ghost use Rattle.std.specs.Option.{option_map};
 ghost use Rattle.lr_base.specs.Ascending.{cid_before};
 ghost use Rattle.lr_base.specs.Insertion.{Ascends};
 ghost use Rattle.lr_base.specs.Rules.{is_before as spot_is_before, is_new as is_new_at, same_cid};
@@ -52,6 +53,22 @@ impl CallIndex {
         ensures most { result < 2 ^ 63 }
     {
         self.entries.len()
+    }
+
+    /// The least spot of a call.
+    pub fn first_of(&self, cid: Cid) -> Option<Spot>
+        requires { Ascends entry_before self.now }
+        ensures { result ≡ option_map (λ e. e.spot) (find (λ e. same_cid e.cid cid) self.now) }
+    {
+        let entries = self.entries.as_slice();
+        let at = count_of_earlier(entries, cid);
+        if at == entries.len() {
+            return None;
+        }
+        if entries[at].cid != cid {
+            return None;
+        }
+        Some(entries[at].spot)
     }
 
     /// Puts an entry at its place in the order of calls and then spots.
@@ -117,4 +134,14 @@ fn count_before(entries: &[CallSpot], entry: CallSpot) -> usize
         entries.now result }
 {
     entries.partition_point(|other| is_entry_before(*other, entry))
+}
+
+// How many entries are of calls before this one.
+fn count_of_earlier(entries: &[CallSpot], cid: Cid) -> usize
+    requires { Ascends entry_before entries.now }
+    ensures most { result ≤ length entries.now }
+    ensures point { IsPartitionPoint (λ e. cid_before e.cid cid ≡ true) (λ e. cid_before e.cid cid ≡ false)
+        entries.now result }
+{
+    entries.partition_point(|entry| is_cid_before(entry.cid, cid))
 }

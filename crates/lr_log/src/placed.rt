@@ -82,10 +82,10 @@ impl<T: AtSpot> Placed<T> {
     pub fn first_of(&self, cid: Cid) -> Option<&T>
         ensures { option_copied result ≡ find (λ x. same_cid (T.cid_of x) cid) self.now }
     {
-        for row in &self.rows {
-            if let Some(item) = row.first_of(cid) {
-                return Some(item);
-            }
+        let spot = self.index.first_of(cid)?;
+        let place = spot.place as usize;
+        if place < self.rows.len() {
+            return self.rows[place].at(spot);
         }
         None
     }

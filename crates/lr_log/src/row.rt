@@ -3,13 +3,13 @@ ghost use Rattle.std.specs.Prelude.{◌≡◌, ◌≤◌, ◌++◌, [], not, fil
 ghost use Rattle.std.specs.List.Sorted.{IsPartitionPoint};
 ghost use Rattle.std.specs.Option.{option_copied};
 ghost use Rattle.lr_base.specs.Places.{AreInOrder};
-ghost use Rattle.lr_base.specs.Rules.{is_before as spot_is_before, is_new as is_new_at, same_cid};
+ghost use Rattle.lr_base.specs.Rules.{is_before as spot_is_before, is_new as is_new_at};
 ghost use Rattle.lr_log.specs.Items.{NoneAt};
 ghost use Rattle.lr_log.specs.Rows.{insert_item, same_spot};
 
 use crate::received::is_new;
 use crate::spotted::{AtSpot, Copied};
-use lr_base::{Cid, NoMemory, Rows, Spot, Stamp};
+use lr_base::{NoMemory, Rows, Spot, Stamp};
 use std::alloc::Global;
 use std::marker::Model;
 
@@ -80,11 +80,20 @@ impl<T: AtSpot> Row<T> {
         self.items.clear();
     }
 
-    /// The first item of a call.
-    pub fn first_of(&self, cid: Cid) -> Option<&T>
-        ensures { option_copied result ≡ find (λ x. same_cid (T.cid_of x) cid) self.now }
+    /// What stands at a spot.
+    pub fn at(&self, spot: Spot) -> Option<&T>
+        requires { AreInOrder T.spot_of self.now }
+        ensures { option_copied result ≡ find (λ x. same_spot (T.spot_of x) spot) self.now }
     {
-        self.items.as_slice().iter().find(|item| item.cid() == cid)
+        let items = self.items.as_slice();
+        let at = count_before(items, spot);
+        if at == items.len() {
+            return None;
+        }
+        if items[at].spot() != spot {
+            return None;
+        }
+        Some(&items[at])
     }
 
     /// Adds the items' spots behind others.

@@ -1,4 +1,5 @@
 mod Ended
+mod Executed
 mod Facts
 mod Gathered
 mod Left

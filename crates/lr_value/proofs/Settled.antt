@@ -47,6 +47,25 @@ module _ {Op : Type 0} where
   none-new val_ts updates memory received same all recalls = λ k u e unapplied.
       (recalls k u e (rw same (all k u e)) unapplied).blocked
 
+  -- an update that wasn't applied is among those that waited
+  pub found : (before : Stamp) (us : List (LogUpdate Op)) (k : ℕ) (u : LogUpdate Op) → slice_get us k ≡ Some u
+      → is_covered before u ≡ false
+      → (j : ℕ) × (slice_get (waiting before us) j ≡ Some u)
+  found before [] k u e unapplied = let no : None ≡ Some u = e in cc
+  found before (x ∷ us) k u e unapplied =
+      at k e (is_covered before x) refl (λ j f. found before us j u f unapplied)
+    where
+      at : (k : ℕ) → slice_get (x ∷ us) k ≡ Some u → (c : Bool) → is_covered before x ≡ c
+          → ((j : ℕ) → slice_get us j ≡ Some u → (i : ℕ) × (slice_get (waiting before us) i ≡ Some u))
+          → (j : ℕ) × (slice_get (waiting before (x ∷ us)) j ≡ Some u)
+      at zero e true is later =
+          let same : x ≡ u = cc in
+          let yes : is_covered before u ≡ true = rw (← same) is in
+          absurd (true≢false (sym yes ∙ unapplied))
+      at zero e false is later = (0, rw is e)
+      at (suc k) e true is later = let it = later k e in (it.0, rw is it.1)
+      at (suc k) e false is later = let it = later k e in (suc it.0, rw is it.1)
+
   -- what waits among updates that were received was received
   pub waiting-received : (val_ts received : Stamp) (updates same : List (LogUpdate Op)) → same ≡ waiting val_ts updates
       → AllReceived received updates → AllReceived received same
@@ -92,27 +111,9 @@ module _ {Value Op : Type 0} where
           absurd (true≢false (sym yes ∙ unapplied))
       unapplied-before u unapplied false is = is
 
-      -- an update that wasn't applied is among those that waited
-      found : (us : List (LogUpdate Op)) (k : ℕ) (u : LogUpdate Op) → slice_get us k ≡ Some u
-          → is_covered before u ≡ false
-          → (j : ℕ) × (slice_get (waiting before us) j ≡ Some u)
-      found [] k u e unapplied = let no : None ≡ Some u = e in cc
-      found (x ∷ us) k u e unapplied = at k e (is_covered before x) refl (λ j f. found us j u f unapplied)
-        where
-          at : (k : ℕ) → slice_get (x ∷ us) k ≡ Some u → (c : Bool) → is_covered before x ≡ c
-              → ((j : ℕ) → slice_get us j ≡ Some u → (i : ℕ) × (slice_get (waiting before us) i ≡ Some u))
-              → (j : ℕ) × (slice_get (waiting before (x ∷ us)) j ≡ Some u)
-          at zero e true is later =
-              let same : x ≡ u = cc in
-              let yes : is_covered before u ≡ true = rw (← same) is in
-              absurd (true≢false (sym yes ∙ unapplied))
-          at zero e false is later = (0, rw is e)
-          at (suc k) e true is later = let it = later k e in (it.0, rw is it.1)
-          at (suc k) e false is later = let it = later k e in (suc it.0, rw is it.1)
-
       recalls : Recalls after updates memory
       recalls k u e old unapplied =
-          let it = found updates k u e (unapplied-before u unapplied (is_covered before u) refl) in
+          let it = found before updates k u e (unapplied-before u unapplied (is_covered before u) refl) in
           let here : slice_get todo it.0 ≡ Some u = rw are it.1 in
           record {
             blocked = none k u e unapplied;

@@ -1,8 +1,9 @@
 -- What was executed, said without how applying goes on.
-use Rattle.std.specs.Prelude.{◌≡◌, ℕ, true, false, List, ◌++◌, fold, map, take, None, is_some, slice_get, Contains}
+use Rattle.std.specs.Prelude.{◌≡◌, ℕ, true, false, List, ◌++◌, fold, map, take, None, is_some, slice_get}
 use Rattle.std.specs.Option.{ForSome}
 use Rattle.lr_base.specs.Kinds.{IsUpdate}
 use Rattle.lr_base.specs.Meaning.{Meaning}
+use Rattle.lr_base.specs.Orders.{IsAmong}
 use Rattle.lr_base.specs.Rules.{Progress, is_covered, known_of, stamp_of}
 use Rattle.lr_base.specs.Stamps.{stamp_le}
 use Rattle.lr_base.specs.declared.lr_service.Kind.{Kind}
@@ -28,7 +29,7 @@ entry_of u = (u.cid, record { spot = u.spot; stamp = stamp_of u })
 pub record HasApplied {Value Op : Type 0} (m : Meaning Value Op) (updates : List (LogUpdate Op))
     (before after : Progress Value) : Type 0 where
   pub ran : List (LogUpdate Op)
-  pub logged : (k : ℕ) → ForSome (slice_get ran k) (λ u. Contains updates u × (is_covered before.val_ts u ≡ false))
+  pub logged : (k : ℕ) → ForSome (slice_get ran k) (λ u. IsAmong u updates × (is_covered before.val_ts u ≡ false))
   pub value : after.value ≡ fold m.apply before.value (map (λ u. u.op) ran)
   pub entered : after.calls ≡ before.calls ++ map entry_of ran
   pub once : (k : ℕ)

@@ -113,6 +113,8 @@ impl<S: Service> Value<S> {
         // what is applied: by the rule, and what that comes to
         ensures ok { OnOk result (progress self.new (E.known calls.new)
             ≡ all_ready S.meaning (L.updates log.now) (progress self.old (E.known calls.old))) }
+        ensures applied { OnOk result (HasApplied S.meaning (L.updates log.now)
+            (progress self.old (E.known calls.old)) (progress self.new (E.known calls.new))) }
         ensures settled { OnOk result (IsSettledAt received.now (L.updates log.now) self.new) }
         ensures older { IfOk result
             (IsOlderOf (progress self.old (E.known calls.old)) (progress self.new (E.known calls.new))) }

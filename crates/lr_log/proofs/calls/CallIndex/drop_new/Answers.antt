@@ -7,5 +7,6 @@ use Rattle.lr_log.proofs.calls.CallIndex.drop_new.Goals as goal
 
 pub returns : goal.returns
 returns c =
-    filter_same _ (λ e. not (is_new c.args.rep_ts.now e.spot)) _ (λ x b f' t. search rules) _ _ c.retain.ensures.filtered
+    filter_same _ (λ e. not (is_new c.args.rep_ts.now e.spot)) _ (λ x b f' t. search rules) _ _
+    c.retain.ensures.filtered
     ∙ ap (λ (entries : List CallSpot). filter (λ e. not (is_new c.args.rep_ts.now e.spot)) entries) c.self.view_is

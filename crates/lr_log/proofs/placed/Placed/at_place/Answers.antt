@@ -6,7 +6,8 @@ use Rattle.lr_log.proofs.placed.Placed.at_place.Goals as goal
 pub returns-then-at-len : goal.returns-then-at-len
 returns-then-at-len g c =
     c.as_slice.ensures
-    ∙ items_at-row g.T.AtSpot.spot_of c.args.place c.self.inside.rows.items c.index.result.now c.index.result.now c.self.invariant.placed
+    ∙ items_at-row g.T.AtSpot.spot_of c.args.place c.self.inside.rows.items c.index.result.now c.index.result.now
+    c.self.invariant.placed
     (omega arith) c.index.ensures
     ∙ ap (items_at g.T.AtSpot.spot_of c.args.place) c.self.view_is
 

@@ -1,22 +1,43 @@
-use Rattle.std.proofs.Common.{◌∙◌, ap, sym, add-one, take}
-use Rattle.std.specs.Prelude.{find}
-use Rattle.lr_base.specs.Rules.{same_cid}
-use Rattle.lr_log.specs.Rows.{together}
-use Rattle.lr_log.proofs.Finding.{find-row, none-row}
+use Rattle.std.proofs.Common.{◌∙◌, ap, sym, arith}
+use Rattle.std.specs.Option.{option_map}
+use Rattle.lr_log.specs.Rows.{same_spot}
+use Rattle.lr_log.proofs.CallLemmas.{index-in_order}
+use Rattle.lr_log.proofs.Finding.{found-through, in-row, none-through, past-rows}
+use Rattle.lr_log.proofs.RowLemmas.{row-in_order}
 use Rattle.lr_log.proofs.placed.Placed.first_of.Goals as goal
 
-pub returns-in-Some : goal.returns-in-Some
-returns-in-Some g c =
-    sym (find-row (λ x. same_cid (g.T.AtSpot.cid_of x) c.args.cid) c.deref-row-items.result.now c.loop-row.row-index c.row-item.result
-    c.in-Some.item.now c.loop-row-test.true c.loop-row.invariant
-    (ap (find (λ x. same_cid (g.T.AtSpot.cid_of x) c.args.cid)) (sym c.row-item.is) ∙ sym c.in-Some.ensures))
-    ∙ ap (λ rows. find (λ x. same_cid (g.T.AtSpot.cid_of x) c.args.cid) (together rows)) c.deref-row-items.ensures.value
-    ∙ ap (find (λ x. same_cid (g.T.AtSpot.cid_of x) c.args.cid)) c.self.view_is
+pub first_of-requires : goal.first_of-requires
+first_of-requires g c =
+    index-in_order g.T.AtSpot.spot_of g.T.AtSpot.cid_of c.self.inside.rows.items c.self.inside.index c.self.invariant
 
-pub loop-row-preserved : goal.loop-row-preserved
-loop-row-preserved g c =
-    ap (λ k. find (λ x. same_cid (g.T.AtSpot.cid_of x) c.args.cid) (together (take k c.deref-row-items.result.now)))
-    (add-one c.loop-row.row-index)
-    ∙ none-row (λ x. same_cid (g.T.AtSpot.cid_of x) c.args.cid) c.deref-row-items.result.now c.loop-row.row-index c.row-item.result
-    c.loop-row-test.true c.loop-row.invariant
-    (ap (find (λ x. same_cid (g.T.AtSpot.cid_of x) c.args.cid)) (sym c.row-item.is) ∙ sym c.in_default.ensures)
+pub returns-in_err-spot : goal.returns-in_err-spot
+returns-in_err-spot g c =
+    ap (option_map (λ x. x.now)) c.from_residual.ensures
+    ∙ sym (none-through g.T.AtSpot.spot_of g.T.AtSpot.cid_of c.args.cid c.self.inside.rows.items c.args.self.now
+    c.self.inside.index
+    c.self.invariant c.self.view_is c.in_err-spot.ensures)
+
+pub at-requires : goal.at-requires
+at-requires g c =
+    row-in_order g.T.AtSpot.spot_of c.self.inside.rows.items c.in_ok-spot.spot.place c.index.result.now
+    c.index.result.now
+    c.self.invariant.placed (omega arith) c.index.ensures
+
+pub returns-then-place-len : goal.returns-then-place-len
+returns-then-place-len g c =
+    c.at.ensures
+    ∙ in-row g.T.AtSpot.spot_of g.T.AtSpot.cid_of (λ x. same_spot (g.T.AtSpot.spot_of x) c.in_ok-spot.spot)
+    c.self.inside.rows.items
+    c.in_ok-spot.spot.place c.index.result.now c.index.result.now (omega arith) c.index.ensures
+    ∙ found-through g.T.AtSpot.spot_of g.T.AtSpot.cid_of c.args.cid c.self.inside.rows.items c.args.self.now
+    c.self.inside.index
+    c.in_ok-spot.spot c.self.invariant c.self.view_is c.in_ok-spot.ensures
+
+pub returns : goal.returns
+returns g c =
+    past-rows g.T.AtSpot.spot_of g.T.AtSpot.cid_of (λ x. same_spot (g.T.AtSpot.spot_of x) c.in_ok-spot.spot)
+    c.self.inside.rows.items
+    c.in_ok-spot.spot.place (omega arith)
+    ∙ found-through g.T.AtSpot.spot_of g.T.AtSpot.cid_of c.args.cid c.self.inside.rows.items c.args.self.now
+    c.self.inside.index
+    c.in_ok-spot.spot c.self.invariant c.self.view_is c.in_ok-spot.ensures

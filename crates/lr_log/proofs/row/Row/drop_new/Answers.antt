@@ -6,5 +6,7 @@ use Rattle.lr_log.proofs.row.Row.drop_new.Goals as goal
 
 pub returns : goal.returns
 returns g c =
-    filter_same _ (λ x. not (is_new c.args.rep_ts.now (g.T.AtSpot.spot_of x))) _ (λ x b f' t. search rules) _ _ c.retain.ensures.filtered
-    ∙ ap (λ (items : List g.row.T.Denot). filter (λ x. not (is_new c.args.rep_ts.now (g.T.AtSpot.spot_of x))) items) c.self.view_is
+    filter_same _ (λ x. not (is_new c.args.rep_ts.now (g.T.AtSpot.spot_of x))) _ (λ x b f' t. search rules) _ _
+    c.retain.ensures.filtered
+    ∙ ap (λ (items : List g.row.T.Denot). filter (λ x. not (is_new c.args.rep_ts.now (g.T.AtSpot.spot_of x))) items)
+    c.self.view_is

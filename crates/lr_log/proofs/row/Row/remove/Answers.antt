@@ -6,5 +6,7 @@ use Rattle.lr_log.proofs.row.Row.remove.Goals as goal
 
 pub returns : goal.returns
 returns g c =
-    filter_same _ (λ x. not (same_spot (g.T.AtSpot.spot_of x) c.args.spot)) _ (λ x b f' t. search rules) _ _ c.retain.ensures.filtered
-    ∙ ap (λ (items : List g.row.T.Denot). filter (λ x. not (same_spot (g.T.AtSpot.spot_of x) c.args.spot)) items) c.self.view_is
+    filter_same _ (λ x. not (same_spot (g.T.AtSpot.spot_of x) c.args.spot)) _ (λ x b f' t. search rules) _ _
+    c.retain.ensures.filtered
+    ∙ ap (λ (items : List g.row.T.Denot). filter (λ x. not (same_spot (g.T.AtSpot.spot_of x) c.args.spot)) items)
+    c.self.view_is

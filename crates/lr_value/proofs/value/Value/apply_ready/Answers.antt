@@ -7,9 +7,11 @@ use Rattle.lr_base.specs.Places.{AreInOrder}
 use Rattle.lr_base.specs.Rules.{is_covered, take_ready, waiting}
 use Rattle.lr_base.specs.StampLaws.{stamp_le-refl}
 use Rattle.lr_value.specs.Applied.{Applied, all_ready, progress, progress_at}
+use Rattle.lr_value.specs.Executing.{HasApplied}
 use Rattle.lr_value.specs.Remembered.{Recalls}
 use Rattle.lr_value.specs.Waiting.{AreLeft, behind}
 use Rattle.lr_value.proofs.Ended.{blocked-idle, idle, none-ready-at}
+use Rattle.lr_value.proofs.Executed.{has-applied}
 use Rattle.lr_value.proofs.Facts.{AllFit-logged, AllLogged-along, AllLogged-filter}
 use Rattle.lr_value.proofs.Left.{left-all}
 use Rattle.lr_value.proofs.Numbered.{index-filter}
@@ -28,6 +30,11 @@ returns-then-has_seen-clause-ok g c =
     c.requires.all_received c.requires.remembered in
     sym (idle g.S.Service.meaning updates (progress c.args.self.now (g.E.Executed.known c.args.calls.now))
     settled.none_ready)
+
+pub returns-then-has_seen-clause-applied : goal.returns-then-has_seen-clause-applied
+returns-then-has_seen-clause-applied g c =
+    let p = progress c.args.self.now (g.E.Executed.known c.args.calls.now) in
+    has-applied g.S.Service.meaning (g.L.Places.updates c.args.log.now) p p (returns-then-has_seen-clause-ok g c)
 
 pub returns-then-has_seen-clause-settled : goal.returns-then-has_seen-clause-settled
 returns-then-has_seen-clause-settled g c =
@@ -64,6 +71,22 @@ pub of-requires-clause-received : goal.of-requires-clause-received
 of-requires-clause-received g c =
     waiting-received c.self.inside.val_ts c.args.received.now (g.L.Places.updates c.args.log.now) _
     (ap behind c.as_slice-then-is_none.ensures.value ∙ c.in_ok-waiting.ensures.waiting) c.requires.all_received
+
+pub returns-then-is_none-clause-applied : goal.returns-then-is_none-clause-applied
+returns-then-is_none-clause-applied g c =
+    let m = g.S.Service.meaning in
+    let updates = g.L.Places.updates c.args.log.now in
+    let val_ts = c.self.inside.val_ts in
+    let calls = g.E.Executed.known c.args.calls.now in
+    let todo : behind c.as_slice.result.now ≡ waiting val_ts updates =
+    ap behind c.as_slice.ensures.value ∙ c.in_ok-waiting.ensures.waiting in
+    let none : take_ready val_ts (waiting val_ts updates) ≡ None =
+    subst (λ (l : List (LogUpdate _)). take_ready val_ts l ≡ None) todo
+    (c.first_ready.ensures.none
+    (none-is c.first_ready.result c.is_none.result c.is_none.ensures c.if-is_none.true)) in
+    let p = progress_at c.self.inside.value val_ts calls in
+    subst (λ (v : Applied _). HasApplied m updates (progress v calls) p) c.self.view_is
+    (has-applied m updates p p (sym (blocked-idle m _ (waiting val_ts updates) p none)))
 
 pub returns-then-is_none-clause-settled : goal.returns-then-is_none-clause-settled
 returns-then-is_none-clause-settled g c =
@@ -106,6 +129,26 @@ of-requires-2-clause-received g c =
     (c.in_ok-left.ensures.left.received c.args.received.now
     (waiting-received c.self.inside.val_ts c.args.received.now (g.L.Places.updates c.args.log.now) _
     c.in_ok-waiting.ensures.waiting c.requires.all_received))
+
+pub returns-clause-applied : goal.returns-clause-applied
+returns-clause-applied g c =
+    let m = g.S.Service.meaning in
+    let updates = g.L.Places.updates c.args.log.now in
+    let before = c.args.self.now in
+    let after = c.apply_all.new.draft in
+    let items = c.in_ok-waiting.waiting.items in
+    let calls = g.E.Executed.known c.apply_all.new.calls in
+    let p = progress before (g.E.Executed.known c.args.calls.now) in
+    let q = progress_at after.value after.val_ts calls in
+    let stamp : c.self.inside.val_ts ≡ before.val_ts = ap (λ (v : Applied _). v.val_ts) c.self.view_is in
+    let todo : behind items ≡ waiting before.val_ts updates =
+    c.in_ok-waiting.ensures.waiting ∙ ap (λ (s : List ℕ). waiting s updates) stamp in
+    let is : q ≡ all_ready m updates p =
+    ready-at m updates (behind items) before c.in_ok-draft.draft.value c.in_ok-draft.draft.val_ts
+    (g.E.Executed.known c.args.calls.now) q todo c.in_ok-draft.ensures.value c.in_ok-draft.ensures.val_ts
+    c.in_ok-left.ensures.ok in
+    has-applied m updates p (progress c.put.new.self calls)
+    (ap (λ (v : Applied _). progress v calls) c.put.ensures.after ∙ is)
 
 pub returns-clause-settled : goal.returns-clause-settled
 returns-clause-settled g c =
