@@ -179,8 +179,8 @@ impl<S: Service> Value<S> {
           newer = Some draft.value;
         } }
     {
-        self.memory = Some(memory);
         self.spare = None;
+        self.memory = Some(memory);
         Older {
             value: mem::replace(&mut self.value, draft.value),
             val_ts: mem::replace(&mut self.val_ts, draft.val_ts),

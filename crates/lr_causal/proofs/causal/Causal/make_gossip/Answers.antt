@@ -1,4 +1,5 @@
 use Rattle.std.proofs.Common.{◌∙◌, ap, length, refl}
+use Rattle.lr_causal.specs.GossipLaws.{StandInOrder-of}
 use Rattle.lr_causal.proofs.Facts.{AllLogged-along}
 use Rattle.lr_causal.proofs.Received.{AllAcksReceived-along, AllReceived-along}
 use Rattle.lr_causal.proofs.causal.Causal.make_gossip.Goals as goal
@@ -16,5 +17,5 @@ returns-clause-shape g c =
       acks_received =
           AllAcksReceived-along c.args.self.now.rep_ts c.copy.result c.args.self.now.log.acks c.in_ok-acks.acks c.copy.ensures
           c.in_ok-acks.ensures c.args.self.now.acks_received;
-      ordered = rw (c.in_ok-updates.ensures, c.in_ok-acks.ensures) c.keeps.ensures;
+      ordered = StandInOrder-of _ _ (rw (c.in_ok-updates.ensures, c.in_ok-acks.ensures) c.keeps.ensures);
     }

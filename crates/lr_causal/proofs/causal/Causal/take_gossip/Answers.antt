@@ -6,6 +6,7 @@ use Rattle.lr_log.specs.ItemLaws.{CanTake-new, IsOrdered-new}
 use Rattle.lr_log.specs.Items.{CanTake, IsOrdered, Items, items_of}
 use Rattle.lr_value.specs.Waiting.{behind}
 use Rattle.lr_causal.specs.Causal.{HasSeen}
+use Rattle.lr_causal.specs.GossipLaws.{IsOrdered-of}
 use Rattle.lr_causal.specs.State.{state_of}
 use Rattle.lr_causal.proofs.Facts.{AllLogged-gained, AllLogged-same}
 use Rattle.lr_causal.proofs.Points.{point-same, point-taken}
@@ -58,7 +59,8 @@ add_all-requires-clause-ordered g c =
     ∙ ap (λ as'. new_acks c.args.self.now.rep_ts as') c.as_slice-2.ensures in
     subst (λ us. IsOrdered (items_of us c.as_slice-4.result.now)) (sym told)
     (subst (λ as'. IsOrdered (items_of (new_updates it.rep_ts gossip.updates) as')) (sym told_acks)
-    (IsOrdered-new it.rep_ts (items_of gossip.updates gossip.acks) c.requires.gossip.ordered))
+    (IsOrdered-new it.rep_ts (items_of gossip.updates gossip.acks)
+    (IsOrdered-of gossip.updates gossip.acks c.requires.gossip.ordered)))
 
 pub add_all-requires-clause-free : goal.add_all-requires-clause-free
 add_all-requires-clause-free g c =

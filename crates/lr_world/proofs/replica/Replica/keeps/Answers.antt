@@ -1,4 +1,5 @@
 use Rattle.std.proofs.Common.{subst}
+use Rattle.lr_causal.specs.GossipLaws.{StandInOrder-of}
 use Rattle.lr_world.specs.Sound.{IsSound}
 use Rattle.lr_world.proofs.replica.Replica.keeps.Goals as goal
 
@@ -14,7 +15,7 @@ returns g c =
         logged = it.logged;
         updates_received = it.updates_received;
         acks_received = it.acks_received;
-        ordered = c.keeps.ensures;
+        ordered = StandInOrder-of _ _ c.keeps.ensures;
       };
       known = it.known;
       asked = c.self.invariant;
