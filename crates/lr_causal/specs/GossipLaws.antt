@@ -12,7 +12,7 @@ use Rattle.lr_base.specs.declared.messages.LogUpdate.{LogUpdate}
 use Rattle.lr_base.specs.declared.names.Spot.{Spot}
 use Rattle.lr_causal.specs.Causal.{EachBefore, IsGossip, StandInOrder}
 use Rattle.lr_log.specs.ItemLaws.{each-by_index}
-use Rattle.lr_log.specs.Items.{IsOrdered, NoneAt, items_of}
+use Rattle.lr_log.specs.Items.{IsOrdered, Items, NoneAt, items_of}
 
 -- what holds of each element holds at each index
 each-at : {A : Type 0} (P : A → Type 0) (xs : List A) → AllByRecursion P xs → (k : ℕ) → ForSome (slice_get xs k) P
@@ -60,6 +60,13 @@ module _ {Op : Type 0} (updates : List (LogUpdate Op)) (acks : List LogAck) wher
         each-by_index (λ (u : LogUpdate Op). NoneAt (λ a. a.spot) u.spot acks) updates
         (λ j u e. each-by_index (λ (a : LogAck). a.spot ≢ u.spot) acks (λ k. told.apart j k u e));
   }
+
+-- the same of a log by the names of its items
+pub StandInOrder-along : {Op : Type 0} (log : Items Op) (updates : List (LogUpdate Op)) (acks : List LogAck)
+    → log.updates ≡ updates → log.acks ≡ acks → IsOrdered log → StandInOrder updates acks
+StandInOrder-along {Op} log updates acks is acks_are ordered =
+    StandInOrder-of updates acks (subst (λ (us : List (LogUpdate Op)). IsOrdered (items_of us acks)) is
+    (subst (λ (as' : List LogAck). IsOrdered (items_of log.updates as')) acks_are ordered))
 
 -- no item, and a stamp that has all its parts
 pub IsGossip-empty : {Op : Type 0} (kind_of : Op → Kind) (parts : ℕ) (rep_ts : List ℕ) → length rep_ts ≡ parts

@@ -1,5 +1,6 @@
 use Rattle.std.proofs.Common.{subst}
-use Rattle.lr_causal.specs.GossipLaws.{StandInOrder-of}
+use Rattle.lr_causal.specs.GossipLaws.{StandInOrder-along}
+use Rattle.lr_causal.specs.State.{state_of}
 use Rattle.lr_world.specs.Sound.{IsSound}
 use Rattle.lr_world.proofs.replica.Replica.keeps.Goals as goal
 
@@ -15,7 +16,9 @@ returns g c =
         logged = it.logged;
         updates_received = it.updates_received;
         acks_received = it.acks_received;
-        ordered = StandInOrder-of _ _ c.keeps.ensures;
+        ordered =
+            StandInOrder-along c.log.result.now (state_of it).updates (state_of it).acks c.log.ensures.updates
+            c.log.ensures.acks c.keeps.ensures;
       };
       known = it.known;
       asked = c.self.invariant;

@@ -30,10 +30,6 @@ returns-clause-made g c =
     let next = c.send.new.self in
     let front = c.copy-front.result in
     let read = front-read it c.args.client _ front c.requires.client c.index.ensures c.copy-front.ensures in
-    let acting = (c.requires.client, record {
-      parts = c.in_ok-on_call.ensures.same.parts ∙ read.0.parts;
-      number = c.in_ok-on_call.ensures.same.client ∙ read.0.number;
-    }) in
     map-ok c.send.result _ _
     (λ pending sent. subst (λ (o : Option FrontState). HasBegun it.config
     (client_called g.S.Service.meaning (run_of it) c.args.client (Replica c.args.replica) c.args.reading c.args.op.now o)
@@ -41,5 +37,8 @@ returns-clause-made g c =
     (front-begun it.config (run_of it) (run_of next) c.args.client front c.on_call.new.front _ c.open.new.self
     c.on_call.new.out (lines_of next) pending
     (c.open.ensures ∙ ap (opened (Client c.args.client)) (c.len.ensures ∙ it.posted.ok.0)) c.in_ok-on_call.ensures.did
-    acting sent))
+    (c.requires.client, record {
+      parts = c.in_ok-on_call.ensures.same.parts ∙ read.0.parts;
+      number = c.in_ok-on_call.ensures.same.client ∙ read.0.number;
+    }) sent))
     c.send.ensures.ok

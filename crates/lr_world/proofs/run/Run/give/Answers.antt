@@ -43,17 +43,21 @@ returns-clause-made g c posted found =
     let it = c.args.self.now in
     let next = c.send.new.self in
     let front = c.copy-front.result in
-    let there = (front-read it c.args.client _ front c.requires.client c.index.ensures c.copy-front.ensures).1 in
+    let read = front-read it c.args.client _ front c.requires.client c.index.ensures c.copy-front.ensures in
     let sent : Some c.message_at-posted.result.now ≡ Some posted =
     sym (ap (λ ps. slice_get ps c.args.at) (sym c.as_slice.ensures.value) ∙ c.message_at-posted.ensures) ∙ found in
     let same : c.message_at-posted.result.now ≡ posted = cc in
     map-ok c.send.result _ _
     (λ pending sent. subst (λ (o : Option FrontState). HasBegun it.config
-    (front_given (run_of it) c.args.client posted.message o) (run_of it) (run_of next) (lines_of next) pending) (sym there)
+    (front_given (run_of it) c.args.client posted.message o) (run_of it) (run_of next) (lines_of next) pending) (sym read.1)
     (subst (λ (p : Posted _). HasBegun it.config (front_given (run_of it) c.args.client p.message (Some front)) (run_of it)
     (run_of next) (lines_of next) pending) same
     (front-begun it.config (run_of it) (run_of next) c.args.client front c.on_message.new.front _ c.open.new.self
     c.on_message.new.out (lines_of next) pending
     (c.open.ensures ∙ ap (opened (Client c.args.client)) (c.len.ensures ∙ it.posted.ok.0))
-    c.in_ok-on_message.ensures.did (send-requires-clause-acting g c) sent)))
+    c.in_ok-on_message.ensures.did
+    (c.requires.client, record {
+      parts = c.in_ok-on_message.ensures.same.parts ∙ read.0.parts;
+      number = c.in_ok-on_message.ensures.same.client ∙ read.0.number;
+    }) sent)))
     c.send.ensures.ok

@@ -57,10 +57,16 @@ send-requires-clause-posts g c =
     let task = c.task_of-task.result in
     let old = (replica-read it c.args.me r c.requires.me c.index_mut-replica.ensures.value).0 in
     let end = begun g.S.Service.meaning r task in
+    let is : IsTaskOf it.posted.items c.args.order task =
+    subst (λ ps. IsTaskOf ps c.args.order task) c.as_slice.ensures.value c.task_of-task.ensures in
+    let fits : IsTask g.S.Op.Operation.kind_of r.config task =
+    subst (λ (config : Config). IsTask g.S.Op.Operation.kind_of config task) (sym old.setting)
+    (task-of g.S.Op.Operation.kind_of it.config it.posted.items c.args.order task it.all_posted c.requires.order
+    c.requires.within is) in
     let sound : AllFitting g.S.Op.Operation.kind_of it.config end.acts =
     subst (λ (config : Config). AllFitting g.S.Op.Operation.kind_of config end.acts) old.setting
     (fitting-begun g.S.Op.Operation.kind_of g.S.Service.meaning r c.begin.new.self task c.keeps.ensures c.keeps-2.ensures
-    c.begin.ensures.same.setting c.in_ok-point.ensures.did.state_is (begin-requires g c)) in
+    c.begin.ensures.same.setting c.in_ok-point.ensures.did.state_is fits) in
     posts-fitting g.S.Op.Operation.kind_of it.config (Replica c.args.me) c.len.result end.acts c.open.new.self
     c.begin.new.out c.open.ensures c.in_ok-point.ensures.did.acts_are (lt-ltb c.args.me it.config.replicas c.requires.me)
     sound
@@ -94,4 +100,9 @@ returns-clause-made g c =
 
 pub returns-clause-err : goal.returns-clause-err
 returns-clause-err g c =
-    c.send.ensures.err c.args.self.now.replicas.items (send-requires-clause-begun g c).1
+    let it = c.args.self.now in
+    let r = c.index_mut-replica.result.now in
+    let there = (replica-read it c.args.me r c.requires.me c.index_mut-replica.ensures.value).1 in
+    c.send.ensures.err it.replicas.items
+    (has-begun (run_of it) c.args.me r c.begin.new.self c.in_ok-point.point there c.in_ok-point.ensures.same
+    c.in_ok-point.ensures.point)
