@@ -1,5 +1,7 @@
 -- What holds of each element of a list.
-use Rattle.std.proofs.Common.{◌≡◌, ℕ, zero, suc, Bool, true, false, List, [], ◌∷◌, refl, Some, None, subst}
+use Rattle.std.proofs.Common.{◌≡◌, ◌+◌, ◌<◌, ◌⊎◌, inl, inr, ℕ, zero, suc, Bool, true, false, List, [], ◌∷◌}
+use Rattle.std.proofs.Common.{refl, sym, ◌∙◌, Some, None, subst, arith}
+use Rattle.std.proofs.Math.Nat.{eq-or-lt_of_le}
 use Rattle.std.specs.Prelude.{filter, slice_get}
 use Rattle.std.specs.Option.{ForSome}
 use Rattle.lr_base.specs.Insertion.{insert_all_by, insert_by}
@@ -46,3 +48,17 @@ module _ {X : Type 0} (P : X → Type 0) (goes_before : X → X → Bool) where
   pub Each-insert_all : (more xs : List X) → Each P more → Each P xs → Each P (insert_all_by goes_before more xs)
   Each-insert_all [] xs own all = all
   Each-insert_all (x ∷ more) xs own all = Each-insert_all more (insert_by goes_before x xs) (λ k. own (suc k)) (Each-insert x xs (own 0 x refl) all)
+
+module _ {X : Type 0} (P : X → Type 0) where
+  -- what holds of the first ones and of the next holds of one more
+  pub each-more : (xs : List X) (at : ℕ) (here : X) → slice_get xs at ≡ Some here → P here
+      → ((k : ℕ) (x : X) → k < at → slice_get xs k ≡ Some x → P x)
+      → (k : ℕ) (x : X) → k < at + 1 → slice_get xs k ≡ Some x → P x
+  each-more xs at here is own all k x below e = go (eq-or-lt_of_le (omega arith))
+    where
+      go : (k ≡ at) ⊎ (k < at) → P x
+      go (inl same) =
+          let e' : slice_get xs at ≡ Some x = rw (← same) e in
+          let both : Some here ≡ Some x = sym is ∙ e' in
+          let is' : here ≡ x = cc in subst P is' own
+      go (inr before) = all k x before e

@@ -4,5 +4,7 @@ mod Kept
 mod LabelLemmas
 mod Points
 mod Received
+mod Remembering
 mod StampRows
 mod Tables
+mod Waiting

@@ -13,9 +13,9 @@ use Rattle.lr_base.specs.declared.names.Cid.{Cid}
 use Rattle.lr_base.specs.Rules.{CausalState, gossip_taken, is_before, is_new, new_acks, new_updates, insert_acks, insert_update}
 use Rattle.lr_base.specs.Stamps.{join, part, set_part}
 use Rattle.lr_base.specs.StampLaws.{join-least, length-join, length-set_part, parts-stamp_le, stamp_le-refl, stamp_le-trans}
-use Rattle.lr_value.specs.Applied.{Applied}
+use Rattle.lr_value.specs.Applied.{Applied, Lagging}
 use Rattle.lr_base.specs.Logged.{AllAcksReceived, AllReceived}
-use Rattle.lr_causal.specs.Savepoint.{HasShapeOf, IsPointOf, Saved, restored, value_before}
+use Rattle.lr_causal.specs.Savepoint.{HasShapeOf, IsPointOf, Lags, Saved, kept_first, put_back_in, restored}
 use Rattle.lr_causal.proofs.Kept.{filter-none, filter-insert, filter-insert_all}
 use Rattle.lr_causal.proofs.Each.{Each-passes}
 use Rattle.lr_causal.proofs.Received.{new-earlier, set_part-above}
@@ -26,10 +26,6 @@ row-back : (table : List (List ℕ)) (from heard : ℕ) (now row : List ℕ) →
 row-back table from heard now row is = rw is (set-set table from now row)
 
 module _ {Value Op : Type 0} where
-  -- the value of a state, with its stamp
-  abbrev pub value_of : CausalState Value Op → Applied Value
-  value_of state = record { value = state.value; val_ts = state.val_ts }
-
   -- a shape by stamps and rows that are as many
   shape-along : (p : Saved Value) (state new : CausalState Value Op) → length new.rep_ts ≡ length state.rep_ts → length new.table ≡ length state.table → HasShapeOf p state → HasShapeOf p new
   shape-along p state new parts rows shape = record {
@@ -57,6 +53,7 @@ module _ {Value Op : Type 0} where
         received = stamp_le-refl state.rep_ts;
         calls_most = omega arith;
         held_most = omega arith;
+        lags = λ o e v f. absurd (cc);
         shape = record {
           rep_parts = refl;
           within = within;
@@ -77,6 +74,7 @@ module _ {Value Op : Type 0} where
         received = stamp_le-trans p.rep_ts state.rep_ts (set_part state.rep_ts u.spot.place u.spot.number) point.received (set_part-above state.rep_ts u.spot.place u.spot.number (omega arith));
         calls_most = point.calls_most;
         held_most = point.held_most;
+        lags = point.lags;
         shape = shape-along p state _ (length-set_part state.rep_ts u.spot.place u.spot.number within) refl point.shape;
       }
 
@@ -104,22 +102,35 @@ module _ {Value Op : Type 0} where
         received = stamp_le-trans p.rep_ts state.rep_ts (join state.rep_ts gossip.rep_ts) point.received (join-least state.rep_ts gossip.rep_ts).above_first;
         calls_most = point.calls_most;
         held_most = point.held_most;
+        lags = point.lags;
         shape =
             shape-along p state (gossip_taken from state gossip) (length-join state.rep_ts gossip.rep_ts (sym long))
             (length-set state.table from joined) point.shape;
       }
 
   -- what is ready is applied: the value of before is kept, and the table of calls has grown
-  pub point-applied : (p kept : Saved Value) (state before : CausalState Value Op) (was next : Applied Value) (calls : List (Cid × Known)) → kept ≡ record p { applied = Some (value_before p.applied was) } → was ≡ value_of state → take (length state.calls) calls ≡ state.calls → length state.val_ts ≡ length state.rep_ts → IsPointOf p state before → IsPointOf kept (record state { value = next.value; val_ts = next.val_ts; calls = calls }) before
-  point-applied p kept state before was next calls keeps is grown val_parts point =
+  pub point-applied : (p kept : Saved Value) (state before : CausalState Value Op) (older : Lagging Value)
+      (next : Applied Value) (calls : List (Cid × Known))
+      → kept ≡ record p { applied = Some (kept_first p.applied older) }
+      → older ≡ record { value = state.value; val_ts = state.val_ts; newer = Some next.value }
+      → take (length state.calls) calls ≡ state.calls → length state.val_ts ≡ length state.rep_ts
+      → IsPointOf p state before
+      → IsPointOf kept (record state { value = next.value; val_ts = next.val_ts; calls = calls }) before
+  point-applied p kept state before older next calls keeps is grown val_parts point =
       let long = ap length grown in
       let most = length-take (length state.calls) calls in
-      let same : take p.calls calls ≡ take p.calls state.calls = sym (take-take p.calls (length state.calls) calls point.calls_most) ∙ ap (take p.calls) grown in
+      let same : take p.calls calls ≡ take p.calls state.calls =
+      sym (take-take p.calls (length state.calls) calls point.calls_most) ∙ ap (take p.calls) grown in
       rw (keeps, is) record {
-        restores = ap (λ (cs : List (Cid × Known)). record (restored p state) { calls = cs }) same ∙ point.restores;
+        restores =
+            ap (λ (v : Applied Value). record (restored p state) {
+              value = v.value; val_ts = v.val_ts; calls = take p.calls calls
+            }) (back p.applied)
+            ∙ ap (λ (cs : List (Cid × Known)). record (restored p state) { calls = cs }) same ∙ point.restores;
         received = point.received;
         calls_most = let least = point.calls_most in omega arith;
         held_most = point.held_most;
+        lags = lag p.applied;
         shape = record {
           rep_parts = point.shape.rep_parts;
           within = point.shape.within;
@@ -128,6 +139,25 @@ module _ {Value Op : Type 0} where
         };
       }
     where
-      both : (applied : Option (Applied Value)) → ForSome applied (λ a. length a.val_ts ≡ length state.rep_ts) → ForSome (Some (value_before applied (value_of state))) (λ a. length a.val_ts ≡ length state.rep_ts)
-      both (Some a) own = own
-      both None own = λ a e. let same : value_of state ≡ a = cc in rw (← same) val_parts
+      own : Lagging Value
+      own = record { value = state.value; val_ts = state.val_ts; newer = Some next.value }
+
+      now : Applied Value
+      now = record { value = next.value; val_ts = next.val_ts; memory = None }
+
+      was : Applied Value
+      was = record { value = state.value; val_ts = state.val_ts; memory = None }
+
+      back : (applied : Option (Lagging Value))
+          → put_back_in (Some (kept_first applied own)) now ≡ put_back_in applied was
+      back (Some a) = refl
+      back None = refl
+
+      lag : (applied : Option (Lagging Value)) → Lags (Some (kept_first applied own)) next.value
+      lag (Some a) = λ o e v f. absurd (cc)
+      lag None = λ o e v f. cc
+
+      both : (applied : Option (Lagging Value)) → ForSome applied (λ a. length a.val_ts ≡ length state.rep_ts)
+          → ForSome (Some (kept_first applied own)) (λ a. length a.val_ts ≡ length state.rep_ts)
+      both (Some a) parts = λ o e. let same : record a { newer = None } ≡ o = cc in rw (← same) (parts a refl)
+      both None parts = λ o e. let same : own ≡ o = cc in rw (← same) val_parts

@@ -1,5 +1,5 @@
 -- Facts that a causal replica keeps.
-use Rattle.std.specs.Prelude.{◌≡◌, ℕ, length, List}
+use Rattle.std.specs.Prelude.{◌≡◌, ◌≢◌, ◌<◌, ℕ, true, false, length, List, Option}
 use Rattle.std.specs.Option.{ForSome}
 use Rattle.lr_base.specs.declared.messages.Call.{Call}
 use Rattle.lr_base.specs.declared.messages.Fresh.{Fresh}
@@ -10,7 +10,10 @@ use Rattle.lr_base.specs.declared.lr_service.Kind.{Kind}
 use Rattle.lr_base.specs.declared.names.Spot.{Spot}
 use Rattle.lr_base.specs.Kinds.{IsUpdate}
 use Rattle.lr_base.specs.Logged.{AllAcksReceived, AllLogged, AllReceived}
-use Rattle.lr_base.specs.Rules.{stamp_of}
+use Rattle.lr_base.specs.Rules.{is_before, stamp_of}
+use Rattle.lr_base.specs.Stamps.{stamp_le}
+use Rattle.lr_base.specs.declared.messages.LogAck.{LogAck}
+use Rattle.lr_value.specs.Applied.{Memory}
 use Rattle.std.specs.List.{slice_get}
 
 -- the stamp of a call that was taken before has these many parts
@@ -18,13 +21,25 @@ abbrev pub AgainHasParts : ℕ → Fresh → Type 0
 AgainHasParts parts (Again spot stamp) = length stamp ≡ parts
 AgainHasParts parts _ = Unit {0}
 
--- gossip of a run whose stamps have these many parts: each update of it can be applied, and by its own stamp each item
--- of it was received
+-- each of these stands before all behind it
+abbrev pub EachBefore : {A : Type 0} → (A → Spot) → List A → Type 0
+EachBefore {A} spot_of items = (j k : ℕ) → j < k → ForSome (slice_get items j) (λ a.
+    ForSome (slice_get items k) (λ b. is_before (spot_of a) (spot_of b) ≡ true))
+
+-- updates and acknowledgements stand in the order of their spots, each at a spot of its own
+pub record StandInOrder {Op : Type 0} (updates : List (LogUpdate Op)) (acks : List LogAck) : Type 0 where
+  pub in_order : EachBefore (λ u. u.spot) updates
+  pub acks_in_order : EachBefore (λ a. a.spot) acks
+  pub apart : (j k : ℕ) → ForSome (slice_get updates j) (λ u. ForSome (slice_get acks k) (λ a. a.spot ≢ u.spot))
+
+-- gossip of a run whose stamps have these many parts: each update of it can be applied, by its own stamp each item of it
+-- was received, and its items stand in order, each at a spot of its own
 pub record IsGossip {Op : Type 0} (kind_of : Op → Kind) (parts : ℕ) (gossip : Gossip Op) : Type 0 where
   pub rep_parts : length gossip.rep_ts ≡ parts
   pub logged : AllLogged kind_of parts gossip.updates
   pub updates_received : AllReceived gossip.rep_ts gossip.updates
   pub acks_received : AllAcksReceived gossip.rep_ts gossip.acks
+  pub ordered : StandInOrder gossip.updates gossip.acks
 
 -- each stamp of a list has these many parts
 abbrev pub AllStamps : ℕ → List (List ℕ) → Type 0
@@ -40,3 +55,11 @@ pub record IsAnswerOf {Op : Type 0} (parts : ℕ) (u : LogUpdate Op) (answer : S
   pub spot : answer.0 ≡ u.spot
   pub stamp : answer.1 ≡ stamp_of u
   pub stamp_parts : length answer.1 ≡ parts
+
+-- no label of these queries is applied to a value with this stamp
+abbrev pub NoneApplied : {Op : Type 0} → List ℕ → List (Call Op) → Type 0
+NoneApplied val_ts calls = (k : ℕ) → ForSome (slice_get calls k) (λ call. stamp_le call.prev val_ts ≡ false)
+
+-- what a value remembers of a log was received
+abbrev pub HasSeen : List ℕ → Option Memory → Type 0
+HasSeen rep_ts memory = ForSome memory (λ it. stamp_le it.seen rep_ts ≡ true)

@@ -1,3 +1,4 @@
 pub mod Causal
+pub mod GossipLaws
 pub mod Savepoint
 pub mod State

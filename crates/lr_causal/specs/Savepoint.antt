@@ -4,7 +4,7 @@ use Rattle.std.specs.Option.{ForSome}
 use Rattle.lr_base.specs.Replicas.{ReplicaState}
 use Rattle.lr_base.specs.Rules.{CausalState, is_new}
 use Rattle.lr_base.specs.Stamps.{stamp_le}
-use Rattle.lr_value.specs.Applied.{Applied}
+use Rattle.lr_value.specs.Applied.{Applied, Lagging}
 
 -- what a savepoint remembers of a state: the stamps and the one row that a step may overwrite, how long its lists were,
 -- and the value where it was changed
@@ -15,17 +15,22 @@ pub record Saved (Value : Type 0) : Type 0 where
   pub row : List ℕ
   pub calls : ℕ
   pub held : ℕ
-  pub applied : Option (Applied Value)
+  pub applied : Option (Lagging Value)
 
--- the value that was remembered, and else the one of now
-abbrev pub value_before : {Value : Type 0} → Option (Applied Value) → Applied Value → Applied Value
-value_before (Some before) now = before
-value_before None now = now
+-- of two older values the first is kept, which can't be caught up with the other's operations
+abbrev pub kept_first : {Value : Type 0} → Option (Lagging Value) → Lagging Value → Lagging Value
+kept_first (Some first) older = record first { newer = None }
+kept_first None older = older
+
+-- the value that was kept, and else the one of now; in both cases nothing of a log is remembered
+abbrev pub put_back_in : {Value : Type 0} → Option (Lagging Value) → Applied Value → Applied Value
+put_back_in (Some older) now = record { value = older.value; val_ts = older.val_ts; memory = None }
+put_back_in None now = record now { memory = None }
 
 -- the state that a savepoint gives back: what is new since then leaves, and the row and the value are those of before
 abbrev pub restored : {Value Op : Type 0} → Saved Value → CausalState Value Op → CausalState Value Op
 restored p state =
-    let before = value_before p.applied (record { value = state.value; val_ts = state.val_ts }) in
+    let before = put_back_in p.applied (record { value = state.value; val_ts = state.val_ts; memory = None }) in
     record state {
       rep_ts = p.rep_ts;
       val_ts = before.val_ts;
@@ -45,12 +50,17 @@ pub record HasShapeOf {Value Op : Type 0} (p : Saved Value) (state : CausalState
   pub row_parts : length p.row ≡ length state.rep_ts
   pub val_parts : ForSome p.applied (λ before. length before.val_ts ≡ length state.rep_ts)
 
+-- an older value comes to the one of now with the operations executed since, where these were kept
+abbrev pub Lags : {Value : Type 0} → Option (Lagging Value) → Value → Type 0
+Lags applied now = ForSome applied (λ older. ForSome older.newer (λ value. value ≡ now))
+
 -- from this state the savepoint gives back the one before
 pub record IsPointOf {Value Op : Type 0} (p : Saved Value) (state before : CausalState Value Op) : Type 0 where
   pub restores : restored p state ≡ before
   pub received : stamp_le p.rep_ts state.rep_ts ≡ true
   pub calls_most : p.calls ≤ length state.calls
   pub held_most : p.held ≤ length state.held
+  pub lags : Lags p.applied state.value
   pub shape : HasShapeOf p state
 
 -- it is still the same replica of the same run

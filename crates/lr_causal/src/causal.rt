@@ -1,24 +1,21 @@
 //! The causal part of a replica.
-ghost use Rattle.std.specs.Prelude.{◌≡◌, ◌+◌, ◌<◌, length, IfOk};
+ghost use Rattle.std.specs.Prelude.{◌≡◌, ◌+◌, ◌<◌, length, IfOk, IsTrue};
 ghost use Rattle.lr_base.specs.Config.{IsValid};
 ghost use Rattle.lr_base.specs.Logged.{AllAcksReceived, AllKnown, AllLogged, AllReceived};
-ghost use Rattle.lr_causal.specs.Causal.{AllStamps};
+ghost use Rattle.lr_causal.specs.Causal.{AllStamps, HasSeen, NoneApplied};
+ghost use Rattle.lr_value.specs.Remembered.{Remembers};
 
-use crate::applying::apply_copy;
 use crate::calls::CallTable;
-use crate::gossip::{copy_updates, new_acks, new_updates};
+use crate::gossip::{new_acks, new_updates};
 use crate::heard::{copy_table, first_table, join_row, put_row, row_of};
-use crate::labels::is_applied;
+use crate::labels::{is_applied, none_applied};
 use crate::lateness::late;
 use crate::savepoint::{Savepoint, put_back};
 use lr_base::lr_service::{Operation, Service};
-use lr_base::{
-    Call, Cid, Config, Fresh, Gossip, Known, LogUpdate, NoMemory, Rows, Spot, Stamp, Text,
-};
+use lr_base::{Call, Cid, Config, Fresh, Gossip, Known, LogUpdate, NoMemory, Spot, Stamp, Text};
 use lr_log::Log;
 use lr_value::Value;
 use std::alloc::Global;
-use std::mem;
 
 /// The state of a replica that causal operations use.
 #[derive(Drop)]
@@ -37,6 +34,8 @@ pub struct Causal<S: Service> {
     top: u64,
     // The queries that wait for what their labels name.
     held: Vec<Call<S::Op>>,
+    // Whether each of them is known to wait still.
+    all_wait: bool,
     ghost valid: { IsValid config },
     ghost own_place: { me < config.replicas },
     ghost rep_parts: { length rep_ts ≡ config.replicas + 1 },
@@ -49,11 +48,14 @@ pub struct Causal<S: Service> {
     ghost known: { AllKnown (config.replicas + 1) calls },
     ghost rows: { length table.items ≡ config.replicas },
     ghost row_parts: { AllStamps (config.replicas + 1) table.items },
+    ghost remembers: { Remembers value log.updates },
+    ghost seen: { HasSeen rep_ts value.memory },
+    ghost waits: { IsTrue all_wait → NoneApplied value.val_ts held.items },
 }
 
 impl<S: Service> Causal<S> {
-    ghost use Rattle.std.specs.Prelude.{◌≡◌, ◌+◌, ◌<◌, ℕ, find, length, IfSome, IfOk, OnOk, OnErr};
-    ghost use Rattle.lr_causal.specs.Causal.{AgainHasParts, IsAnswerOf, IsGossip, IsUpdateCall};
+    ghost use Rattle.std.specs.Prelude.{◌≡◌, ◌+◌, ◌<◌, ◌↔◌, ℕ, find, length, IfSome, IfOk, IsTrue, OnOk, OnErr};
+    ghost use Rattle.lr_causal.specs.Causal.{AgainHasParts, IsAnswerOf, IsGossip, IsUpdateCall, NoneApplied};
     ghost use Rattle.lr_causal.specs.Savepoint.{CanUndo, HasShapeOf, IsPointOf, IsSame};
     ghost use Rattle.lr_base.specs.Config.{IsValid};
     ghost use Rattle.lr_base.specs.Kinds.{IsQuery, IsUpdate};
@@ -90,6 +92,7 @@ impl<S: Service> Causal<S> {
             imm_ts: Stamp::zero(parts),
             top: 0,
             held: Vec::new(alloc),
+            all_wait: true,
         })
     }
 
@@ -217,6 +220,7 @@ impl<S: Service> Causal<S> {
             imm_ts: self.imm_ts.copy(),
             top: self.top,
             held,
+            all_wait: self.all_wait,
         })
     }
 
@@ -298,8 +302,9 @@ impl<S: Service> Causal<S> {
         ensures gossip { IfOk result (λ made. made ≡ gossip_of (state_of self.now)) }
         ensures shape { IfOk result (λ made. IsGossip S.Op.kind_of ((config_of self.now).replicas + 1) made) }
     {
-        let updates = copy_updates(self.log.updates(), self.log.allocator())?;
-        let acks = Rows::from_slice(self.log.allocator(), self.log.acks())?;
+        self.log.keeps();
+        let updates = self.log.copy_updates()?;
+        let acks = self.log.copy_acks()?;
         Ok(Gossip {
             rep_ts: self.rep_ts.copy(),
             updates,
@@ -339,6 +344,7 @@ impl<S: Service> Causal<S> {
     {
         let mut point = self.save(self.me);
         self.apply(&mut point)?;
+        self.close(point);
         self.prune();
         Ok(())
     }
@@ -362,7 +368,7 @@ impl<S: Service> Causal<S> {
     }
 
     /// Applies all that is ready. Where something is, the value of before goes into the savepoint, unless it has one
-    /// already; else it takes no memory.
+    /// already. Where nothing was received since the last time, it looks at no update and takes no memory.
     pub fn apply(&mut self, point: &mut Savepoint<S>) -> Result<(), NoMemory>
         ensures ok { OnOk result (state_of self.new ≡ applied S.meaning (state_of self.old)) }
         // what stays, and can be undone
@@ -372,13 +378,31 @@ impl<S: Service> Causal<S> {
             → IsPointOf point.new (state_of self.new) before }
         ensures same { IsSame (replica_of self.old) (replica_of self.new) }
     {
-        if self.value.is_settled(self.log.updates()) {
-            return Ok(());
+        let count = self.calls.len();
+        let Ok(older) = self
+            .value
+            .apply_ready(&self.log, &self.rep_ts, &mut self.calls)
+        else {
+            self.calls.cut(count);
+            return Err(NoMemory);
+        };
+        if let Some(older) = older {
+            self.all_wait = false;
+            point.keep(older);
         }
-        let value = apply_copy(self.log.updates(), &self.value, &mut self.calls)?;
-        let before = mem::replace(&mut self.value, value);
-        point.keep(before);
         Ok(())
+    }
+
+    /// Ends what the savepoint might have undone: where it has the value of before, that is kept, to be caught up when
+    /// something is applied next. It takes no memory.
+    pub fn close(&mut self, point: Savepoint<S>)
+        requires { (before : CausalState S S.Op) × IsPointOf point (state_of self.old) before }
+        ensures state { state_of self.new ≡ state_of self.old }
+        ensures same { IsSame (replica_of self.old) (replica_of self.new) }
+    {
+        if let Some(older) = point.applied {
+            self.value.keep(older);
+        }
     }
 
     /// Drops what is known everywhere. It takes no memory, and no savepoint undoes it.
@@ -405,6 +429,7 @@ impl<S: Service> Causal<S> {
         put_back(&mut self.value, point.applied);
         self.rep_ts = point.rep_ts;
         self.top = point.top;
+        self.all_wait = false;
         put_row(&mut self.table, point.heard, point.row);
     }
 
@@ -426,7 +451,16 @@ impl<S: Service> Causal<S> {
     {
         let copied = call.copy()?;
         self.held.push(copied)?;
+        self.all_wait = self.all_wait && !is_applied(&call.prev, self.value.val_ts());
         Ok(())
+    }
+
+    /// Whether no held query's label is applied. It looks at them only where something was applied since they were last
+    /// looked at.
+    pub fn all_wait(&self) -> bool
+        ensures { IsTrue result ↔ NoneApplied (state_of self.now).val_ts (state_of self.now).held }
+    {
+        self.all_wait || none_applied(self.held.as_slice(), self.value.val_ts())
     }
 
     /// Drops the held queries whose label is applied. It takes no memory, and no savepoint undoes it.
@@ -434,8 +468,12 @@ impl<S: Service> Causal<S> {
         ensures state { state_of self.new ≡ still_held (state_of self.old) }
         ensures same { IsSame (replica_of self.old) (replica_of self.new) }
     {
+        if self.all_wait {
+            return;
+        }
         let val_ts = self.value.val_ts();
         self.held.retain(|call| !is_applied(&call.prev, val_ts));
+        self.all_wait = true;
     }
 }
 

@@ -3,8 +3,7 @@ ghost use Rattle.std.specs.Prelude.{◌≡◌, IfOk};
 ghost use Rattle.lr_base.specs.Rules.{new_acks as new_acks_of, new_updates as new_updates_of};
 ghost use Rattle.lr_value.specs.Waiting.{behind};
 
-use lr_base::lr_service::Operation;
-use lr_base::{LogAck, LogUpdate, NoMemory, Rows, Stamp};
+use lr_base::{LogAck, LogUpdate, NoMemory, Stamp};
 use lr_log::is_new;
 use std::alloc::Global;
 
@@ -36,18 +35,4 @@ pub fn new_acks(alloc: Global, acks: &[LogAck], rep_ts: &Stamp) -> Result<Vec<Lo
         }
     }
     Ok(found)
-}
-
-/// Updates equal to these.
-pub fn copy_updates<O: Operation>(
-    updates: &[LogUpdate<O>],
-    alloc: Global,
-) -> Result<Rows<LogUpdate<O>>, NoMemory>
-    ensures { IfOk result (λ copied. copied ≡ updates.now) }
-{
-    let mut copied = Rows::new(alloc);
-    for update in updates {
-        copied.push(update.copy()?)?;
-    }
-    Ok(copied)
 }

@@ -1,10 +1,10 @@
 //! What a step may change, kept so that the step can be undone.
 ghost use Rattle.std.specs.Prelude.{◌≡◌, Some, None};
-ghost use Rattle.lr_causal.specs.Savepoint.{value_before};
+ghost use Rattle.lr_causal.specs.Savepoint.{kept_first, put_back_in};
 
 use lr_base::Stamp;
 use lr_base::lr_service::Service;
-use lr_value::Value;
+use lr_value::{Older, Value};
 use std::marker::Model;
 
 /// A replica's state before a step, as far as a step may overwrite it: what it had received, its last number, one row
@@ -21,7 +21,7 @@ pub struct Savepoint<S: Service> {
     // How many queries were held.
     pub(crate) held: usize,
     // The value, where the step has changed it.
-    pub(crate) applied: Option<Value<S>>,
+    pub(crate) applied: Option<Older<S>>,
 }
 
 impl<S: Service> Model for Savepoint<S> {
@@ -41,21 +41,24 @@ impl<S: Service> Model for Savepoint<S> {
 }
 
 impl<S: Service> Savepoint<S> {
-    /// Keeps the value of before the step, which is the first one that it is given.
-    pub(crate) fn keep(&mut self, value: Value<S>)
-        ensures { self.new ≡ record self.old { applied = Some (value_before self.old.applied value) } }
+    /// Keeps the value of before the step, which is the first one that it is given. Once it is given another, the first
+    /// can't be caught up any more.
+    pub(crate) fn keep(&mut self, older: Older<S>)
+        ensures { self.new ≡ record self.old { applied = Some (kept_first self.old.applied older) } }
     {
-        if self.applied.is_none() {
-            self.applied = Some(value);
+        match &mut self.applied {
+            Some(first) => first.unlink(),
+            None => self.applied = Some(older),
         }
     }
 }
 
-/// Puts back the value of before the step, where the step changed it.
-pub fn put_back<S: Service>(value: &mut Value<S>, before: Option<Value<S>>)
-    ensures { value.new ≡ value_before before value.old }
+/// Puts back the value of before the step, where the step changed it. What was remembered of the log is forgotten.
+pub fn put_back<S: Service>(value: &mut Value<S>, before: Option<Older<S>>)
+    ensures { value.new ≡ put_back_in before value.old }
 {
-    if let Some(before) = before {
-        *value = before;
+    match before {
+        Some(older) => value.put_back(older),
+        None => value.forget(),
     }
 }

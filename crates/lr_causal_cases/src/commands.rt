@@ -164,8 +164,8 @@ fn answer_asked(
         "heard" => Ok(put_heard(replica, out)?),
         "executed" => put_executed(alloc, replica, out),
         "held" => Ok(put_held(replica, out)?),
-        "updates" => Ok(put_updates(replica, out)?),
-        "acks" => Ok(put_acks(replica, out)?),
+        "updates" => put_updates(replica, out),
+        "acks" => put_acks(replica, out),
         _ => Err(Fault::Unread),
     }
 }

@@ -20,6 +20,8 @@ pub enum Fault {
     Worn,
     /// An acknowledgement is new where the gossip's own stamp says what was received.
     Unreceived,
+    /// An acknowledgement's number isn't past the one before it.
+    OutOfOrder,
     /// The replicas are of two runs.
     TwoRuns,
     NoMemory,
@@ -36,6 +38,7 @@ impl Fault {
             Fault::BadOperation => "not such an operation",
             Fault::Worn => "no number is left",
             Fault::Unreceived => "an acknowledgement is past the stamp",
+            Fault::OutOfOrder => "acknowledgements out of order",
             Fault::TwoRuns => "replicas of two runs",
             Fault::NoMemory => "no memory",
         }

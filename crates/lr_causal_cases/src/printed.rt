@@ -124,8 +124,9 @@ pub fn put_held(replica: &Causal<Tally>, out: &mut String) -> Result<(), AllocEr
 }
 
 /// Adds the logged updates behind `out`, each with its spot, its call and its label.
-pub fn put_updates(replica: &Causal<Tally>, out: &mut String) -> Result<(), AllocError> {
-    for update in replica.log().updates() {
+pub fn put_updates(replica: &Causal<Tally>, out: &mut String) -> Result<(), Fault> {
+    let updates = replica.log().copy_updates()?;
+    for update in updates.as_slice() {
         put_item(update.spot, update.cid, out)?;
         out.push_str(" after ")?;
         put_stamp(&update.prev, out)?;
@@ -141,8 +142,9 @@ fn put_item(spot: Spot, cid: Cid, out: &mut String) -> Result<(), AllocError> {
 }
 
 /// Adds the logged acknowledgements behind `out`, each with its spot and its call.
-pub fn put_acks(replica: &Causal<Tally>, out: &mut String) -> Result<(), AllocError> {
-    for ack in replica.log().acks() {
+pub fn put_acks(replica: &Causal<Tally>, out: &mut String) -> Result<(), Fault> {
+    let acks = replica.log().copy_acks()?;
+    for ack in acks.as_slice() {
         put_item(ack.spot, ack.cid, out)?;
     }
     Ok(())

@@ -99,8 +99,8 @@ pub fn hear_acks(
     Ok(put_count(count, out)?)
 }
 
-// The gossip of a replica that received so many items, and of these numbers acknowledgements of the calls of the same
-// numbers.
+// The gossip of a replica that received so many items, and of these numbers, in their order, acknowledgements of the
+// calls of the same numbers.
 fn gossip_of_acks(
     alloc: Global,
     place: u8,
@@ -110,12 +110,17 @@ fn gossip_of_acks(
     ensures { IfOk result (IsGossip ⟦<TallyOp as Operation>⟧.kind_of (length rep_ts)) }
 {
     let mut acks = Rows::new(alloc);
+    let mut last = 0;
     for number in numbers {
         let number = number_of(number)?;
         let spot = Spot { place, number };
         if is_new(&rep_ts, spot) {
             return Err(Fault::Unreceived);
         }
+        if number <= last {
+            return Err(Fault::OutOfOrder);
+        }
+        last = number;
         acks.push(LogAck {
             spot,
             cid: cid(number),

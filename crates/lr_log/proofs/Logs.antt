@@ -1,67 +1,85 @@
--- Where an update stands in a log.
-use Rattle.std.proofs.Common.{◌≡◌, ◌+◌, ◌<◌, ◌≤◌, ◌++◌, get_or, take, ℕ, Bool, true, false, List, [], ◌∷◌, length, refl, ap, ◌∙◌, arith, add-one, Some, None, nat_lt, ltb-false}
-use Rattle.std.specs.Prelude.{map, position, not}
-use Rattle.std.specs.List.{position_or_len}
-use Rattle.std.proofs.lemmas.List.Sums.{prefix_len-le-length}
-use Rattle.lr_base.specs.declared.messages.LogUpdate.{LogUpdate}
-use Rattle.lr_base.specs.declared.messages.LogAck.{LogAck}
-use Rattle.lr_base.specs.InsertionLaws.{inserted-more}
-use Rattle.lr_base.specs.Rules.{is_before, insert_ack, insert_acks, insert_update, insert_updates}
-use Rattle.std.proofs.Math.Seq.{take-suc}
+-- A log of updates and acknowledgements stays ordered.
+use Rattle.std.proofs.Common.{◌≡◌, List, [], ◌∷◌, length, map, take, refl, sym, ap, subst, ◌∙◌, arith}
 use Rattle.std.specs.Borrow.{Bor}
-use Rattle.lr_log.specs.Items.{Items, items_of}
+use Rattle.lr_log.proofs.Taking.{length-mapped, take-whole}
+use Rattle.lr_base.specs.declared.messages.LogAck.{LogAck}
+use Rattle.lr_base.specs.declared.messages.LogUpdate.{LogUpdate}
+use Rattle.lr_base.specs.Rules.{insert_ack, insert_acks, insert_update, insert_updates}
+use Rattle.lr_log.specs.Items.{CanTake, IsFree, IsOrdered, Items, NoneAt, items_of}
+use Rattle.lr_log.specs.Rows.{AreFree}
+use Rattle.lr_log.specs.ItemLaws.{IsOrdered-ack, IsOrdered-all, IsOrdered-update, each-map}
 
--- at most all come before it
-pub position_or_len-most : {X : Type 0} (test : X → Bool) (xs : List X) → position_or_len test xs ≤ length xs
-position_or_len-most test xs = prefix_len-le-length (λ x. not (test x)) xs
+-- a list is what it is made of
+pub map-same : {X : Type 0} (xs : List X) → map (λ x. x) xs ≡ xs
+map-same [] = refl
+map-same (x ∷ xs) = ap (λ (l : List _). x ∷ l) (map-same xs)
 
--- the first that passes, or the end
-pub position-found : {X : Type 0} (test : X → Bool) (xs : List X) (k : ℕ) → position test xs ≡ Some k → k ≡ position_or_len test xs
-position-found test xs k found = go (nat_lt (position_or_len test xs) (length xs)) refl
-  where
-    go : (within : Bool) → nat_lt (position_or_len test xs) (length xs) ≡ within → k ≡ position_or_len test xs
-    go true is = let found' : Some (position_or_len test xs) ≡ Some k = rw is at found in cc
-    go false is = let found' : None ≡ Some k = rw is at found in cc
+module _ {O : Type 0} where
+  -- with one more update
+  pub ordered-update : (u : LogUpdate O) (log : Items O) (updates new : List (LogUpdate O)) (acks : List LogAck)
+      → items_of updates acks ≡ log
+      → IsFree log u.spot → IsOrdered (items_of updates acks) → new ≡ insert_update u updates → IsOrdered
+      (items_of new acks)
+  ordered-update u log updates new acks view free ordered put =
+      subst (λ (l : List (LogUpdate O)). IsOrdered (items_of l acks)) (sym put)
+      (IsOrdered-update u (items_of updates acks) (subst (λ (l : Items O). IsFree l u.spot) (sym view) free) ordered)
 
-pub position-none : {X : Type 0} (test : X → Bool) (xs : List X) → position test xs ≡ None → length xs ≡ position_or_len test xs
-position-none test xs none = go (nat_lt (position_or_len test xs) (length xs)) refl
-  where
-    go : (within : Bool) → nat_lt (position_or_len test xs) (length xs) ≡ within → length xs ≡ position_or_len test xs
-    go true is = let none' : Some (position_or_len test xs) ≡ None = rw is at none in cc
-    go false is = let past = ltb-false _ _ is in omega (arith, position_or_len-most test xs)
+  -- with one more acknowledgement
+  pub ordered-ack : (a : LogAck) (log : Items O) (updates : List (LogUpdate O)) (acks new : List LogAck)
+      → items_of updates acks ≡ log
+      → IsFree log a.spot → IsOrdered (items_of updates acks) → new ≡ insert_ack a acks → IsOrdered
+      (items_of updates new)
+  ordered-ack a log updates acks new view free ordered put =
+      subst (λ (l : List LogAck). IsOrdered (items_of updates l)) (sym put)
+      (IsOrdered-ack a (items_of updates acks) (subst (λ (l : Items O). IsFree l a.spot) (sym view) free) ordered)
 
-pub position-most : {X : Type 0} (test : X → Bool) (xs : List X) (k : ℕ) → position test xs ≡ Some k → k ≤ length xs
-position-most test xs k found = rw (position-found test xs k found) (position_or_len-most test xs)
+  -- the other acknowledgements' spots are free among those of the log
+  pub acks-free : (log : Items O) (updates ups : List (LogUpdate O)) (acks more : List LogAck)
+      → items_of updates acks ≡ log
+      → CanTake log (items_of ups more) → AreFree (λ (a : LogAck). a.spot) (map (λ a. a) more) acks
+  acks-free log updates ups acks more view free =
+      subst (λ (l : List LogAck). AreFree (λ (a : LogAck). a.spot) l acks) (sym (map-same more))
+      (each-map (λ (a : LogAck). IsFree log a.spot) _ more
+      (λ a is. subst (λ (l : Items O). NoneAt (λ (b : LogAck). b.spot) a.spot l.acks) (sym view) is.acks) free.acks)
 
--- a log with one more update
-pub logged-more : {O : Type 0} (new own : List (LogUpdate O)) (acks : List LogAck) (log : Items O) (u : LogUpdate O) → new ≡ insert_update u own → items_of own acks ≡ log → items_of new acks ≡ record log { updates = insert_update u log.updates }
-logged-more new own acks log u put is =
-    ap (λ (xs : List (LogUpdate _)). items_of xs acks) put ∙ ap (λ (l : Items _). items_of (insert_update u l.updates) l.acks) is
+  pub updates-free : (log : Items O) (updates ups : List (LogUpdate O)) (acks more : List LogAck)
+      → items_of updates acks ≡ log
+      → CanTake log (items_of ups more) → AreFree (λ (u : LogUpdate O). u.spot) ups updates
+  updates-free log updates ups acks more view free =
+      each-map (λ (u : LogUpdate O). IsFree log u.spot) _ ups
+      (λ u is. subst (λ (l : Items O). NoneAt (λ (v : LogUpdate O). v.spot) u.spot l.updates) (sym view) is.updates)
+      free.updates
 
--- a log with one more acknowledgement
-pub acked-more : {O : Type 0} (updates : List (LogUpdate O)) (new own : List LogAck) (log : Items O) (a : LogAck) → new ≡ insert_ack a own → items_of updates own ≡ log → items_of updates new ≡ record log { acks = insert_ack a log.acks }
-acked-more updates new own log a put is =
-    ap (λ (xs : List LogAck). items_of updates xs) put ∙ ap (λ (l : Items _). items_of l.updates (insert_ack a l.acks)) is
+  -- with all of the others
+  pub ordered-all : (log : Items O) (updates new ups : List (LogUpdate O)) (acks new_acks more : List LogAck)
+      → items_of updates acks ≡ log
+      → CanTake log (items_of ups more) → IsOrdered (items_of updates acks) → IsOrdered (items_of ups more)
+      → new ≡ insert_updates ups updates → new_acks ≡ insert_acks (map (λ a. a) more) acks → IsOrdered
+      (items_of new new_acks)
+  ordered-all log updates new ups acks new_acks more view free ordered own put put_acks =
+      let acks_put : new_acks ≡ insert_acks more acks = put_acks ∙ ap (λ (l : List LogAck). insert_acks l acks)
+      (map-same more) in
+      subst (IsOrdered {Op = O}) (λ i. items_of (sym put i) (sym acks_put i))
+      (IsOrdered-all (items_of updates acks) (items_of ups more) ordered own
+      (subst (λ (l : Items O). CanTake l (items_of ups more)) (sym view) free))
 
--- the updates behind references
-abbrev pub behind : {O : Type 0} → List (Bor (LogUpdate O)) → List (LogUpdate O)
-behind references = map (λ r. r.now) references
+  -- with what it had
+  pub ordered-back : (updates new : List (LogUpdate O)) (acks new_acks : List LogAck)
+      → IsOrdered (items_of updates acks)
+      → new ≡ updates → new_acks ≡ acks → IsOrdered (items_of new new_acks)
+  ordered-back updates new acks new_acks ordered same same_acks =
+      subst (IsOrdered {Op = O}) (λ i. items_of (sym same i) (sym same_acks i)) ordered
 
-behind-more : {O : Type 0} (references : List (Bor (LogUpdate O))) (r : Bor (LogUpdate O)) → behind (references ++ r ∷ []) ≡ behind references ++ r.now ∷ []
-behind-more [] r = refl
-behind-more (x ∷ references) r = ap (λ (us : List (LogUpdate _)). x.now ∷ us) (behind-more references r)
-
--- the updates behind one more reference
-behind-take : {O : Type 0} (references : List (Bor (LogUpdate O))) (k : ℕ) (r : Bor (LogUpdate O)) → k < length references → r ≡ get_or references k r → behind (take (k + 1) references) ≡ behind (take k references) ++ r.now ∷ []
-behind-take references k r within is =
-    rw (add-one k, take-suc references k r within, ← is) (behind-more (take k references) r)
-
--- a log that gained the update behind one more reference
-pub updates-more : {O : Type 0} (references : List (Bor (LogUpdate O))) (k : ℕ) (r : Bor (LogUpdate O)) (u : LogUpdate O) (first log new : Items O) → k < length references → r ≡ get_or references k r → u ≡ r.now → log ≡ record first { updates = insert_updates (behind (take k references)) first.updates } → new ≡ record log { updates = insert_update u log.updates } → new ≡ record first { updates = insert_updates (behind (take (k + 1) references)) first.updates }
-updates-more references k r u first log new within is copied before gained =
-    rw (behind-take references k r within is, inserted-more (λ a b. is_before a.spot b.spot) (behind (take k references)) first.updates r.now, gained, before, copied) refl
-
--- a log that gained one more acknowledgement
-pub acks-more : {O : Type 0} (acks : List LogAck) (k : ℕ) (d : LogAck) (first log new : Items O) → k < length acks → log ≡ record first { acks = insert_acks (take k acks) first.acks } → new ≡ record log { acks = insert_ack (get_or acks k d) log.acks } → new ≡ record first { acks = insert_acks (take (k + 1) acks) first.acks }
-acks-more acks k d first log new within before gained =
-    rw (add-one k, take-suc acks k d within, inserted-more (λ a b. is_before a.spot b.spot) (take k acks) first.acks (get_or acks k d), gained, before) refl
+  -- the updates are taken back
+  pub taken-back : (log : Items O) (updates put new : List (LogUpdate O)) (references : List (Bor (LogUpdate O)))
+      (acks more : List LogAck)
+      → items_of updates acks ≡ log → CanTake log (items_of (map (λ u. u.now) references) more)
+      → put ≡ insert_updates (map (λ u. u.now) references) updates
+      → ((first : List (LogUpdate O)) → AreFree (λ (u : LogUpdate O). u.spot) (map (λ u. u.now) references) first
+      → put ≡ insert_updates (take (length references) (map (λ u. u.now) references)) first → new ≡ first)
+      → new ≡ updates
+  taken-back log updates put new references acks more view free gained back =
+      back updates (updates-free log updates (map (λ (u : Bor (LogUpdate O)). u.now) references) acks more view free)
+      (gained ∙ ap (λ (l : List (LogUpdate O)). insert_updates l updates)
+      (sym (take-whole (length references) (map (λ (u : Bor (LogUpdate O)). u.now) references)
+      (omega (arith, length-mapped (λ (u : Bor (LogUpdate O)). u.now) references)))))

@@ -1,7 +1,10 @@
--- What a contract sees of a log.
-use Rattle.std.specs.Prelude.{◌+◌, ℕ, List, length}
+-- What a contract sees of a log, and how its items stand.
+use Rattle.std.specs.Prelude.{◌+◌, ◌≢◌, ℕ, List, length}
+use Rattle.std.specs.List.{AllByRecursion}
+use Rattle.lr_base.specs.declared.names.Spot.{Spot}
 use Rattle.lr_base.specs.declared.messages.LogAck.{LogAck}
 use Rattle.lr_base.specs.declared.messages.LogUpdate.{LogUpdate}
+use Rattle.lr_base.specs.Places.{AreInOrder}
 
 -- the logged updates and acknowledgements
 pub record Items (Op : Type 0) : Type 0 where
@@ -15,3 +18,23 @@ item_count log = length log.updates + length log.acks
 -- a log of these updates and acknowledgements
 abbrev pub items_of : {Op : Type 0} → List (LogUpdate Op) → List LogAck → Items Op
 items_of updates acks = record { updates = updates; acks = acks }
+
+-- none of the items stands at this spot
+abbrev pub NoneAt : {A : Type 0} → (A → Spot) → Spot → List A → Type 0
+NoneAt spot_of spot items = AllByRecursion (λ x. spot_of x ≢ spot) items
+
+-- updates and acknowledgements stand in the order of their spots, and no update at the spot of an acknowledgement
+pub record IsOrdered {Op : Type 0} (log : Items Op) : Type 0 where
+  pub in_order : AreInOrder (λ u. u.spot) log.updates
+  pub acks_in_order : AreInOrder (λ a. a.spot) log.acks
+  pub apart : AllByRecursion (λ u. NoneAt (λ a. a.spot) u.spot log.acks) log.updates
+
+-- no item of the log stands at this spot
+pub record IsFree {Op : Type 0} (log : Items Op) (spot : Spot) : Type 0 where
+  pub updates : NoneAt (λ u. u.spot) spot log.updates
+  pub acks : NoneAt (λ a. a.spot) spot log.acks
+
+-- the spot of each of the other items is free in the log
+pub record CanTake {Op : Type 0} (log more : Items Op) : Type 0 where
+  pub updates : AllByRecursion (λ u. IsFree log u.spot) more.updates
+  pub acks : AllByRecursion (λ a. IsFree log a.spot) more.acks

@@ -1,8 +1,12 @@
 //! The log of a replica: which updates and acknowledgements it received and keeps.
 #![tactic(auto)]
 
+mod calls;
 mod log;
+mod placed;
 mod received;
+mod row;
+mod spotted;
 
 pub use log::Log;
 pub use received::{is_new, part_or_zero};

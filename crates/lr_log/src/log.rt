@@ -1,33 +1,35 @@
 //! What a replica received and keeps: updates and acknowledgements.
-ghost use Rattle.std.specs.Prelude.{◌≡◌, ◌↔◌, ◌<◌, ◌≤◌, ◌+◌, not, IsTrue, IfOk, OnOk, OnErr};
-ghost use Rattle.std.specs.Prelude.{[], length, filter, find, map, position};
+ghost use Rattle.std.specs.Prelude.{◌≡◌, ◌↔◌, ◌<◌, ◌+◌, not, IsTrue, IfOk, OnOk, OnErr};
+ghost use Rattle.std.specs.Prelude.{[], length, filter, find, map};
 ghost use Rattle.std.specs.Option.{option_map, option_copied};
-ghost use Rattle.std.specs.List.{position_or_len};
 ghost use Rattle.lr_base.specs.Limits.{log_room};
-ghost use Rattle.lr_base.specs.Rules.{is_before as spot_is_before, is_new as is_new_at, same_cid};
+ghost use Rattle.lr_base.specs.Places.{items_at};
+ghost use Rattle.lr_base.specs.Rules.{is_new as is_new_at, same_cid};
 ghost use Rattle.lr_base.specs.Rules.{insert_ack, insert_acks as all_acks_inserted};
 ghost use Rattle.lr_base.specs.Rules.{insert_update, insert_updates as all_updates_inserted};
-ghost use Rattle.lr_log.specs.Items.{Items, item_count};
+ghost use Rattle.lr_log.specs.Items.{CanTake, IsFree, IsOrdered, Items, item_count, items_of};
 
-use crate::received::is_new;
+use crate::placed::Placed;
 use lr_base::lr_service::Operation;
-use lr_base::{Cid, LOG_ROOM, LogAck, LogUpdate, NoMemory, Spot, Stamp};
+use lr_base::{Cid, LOG_ROOM, LogAck, LogUpdate, NoMemory, Places, Rows, Spot, Stamp};
 use std::alloc::Global;
 use std::marker::Model;
 
 /// The logged updates and acknowledgements, each list in order of place and then number.
 #[derive(Drop)]
 pub struct Log<O: Drop> {
-    updates: Vec<LogUpdate<O>>,
-    acks: Vec<LogAck>,
+    updates: Placed<LogUpdate<O>>,
+    acks: Placed<LogAck>,
 }
 
 impl<O: Drop> Model for Log<O> {
-    ghost use Rattle.lr_log.specs.Items.{Items};
+    ghost use Rattle.lr_log.specs.Items.{IsOrdered, Items, items_of};
 
     ghost Value = { Items O };
 
-    ghost view = { λ log. record { updates = log.updates.items; acks = log.acks.items } };
+    ghost view = { λ log. items_of log.updates log.acks };
+
+    ghost invariant = { λ log. IsOrdered (items_of log.updates log.acks) };
 }
 
 impl<O: Drop> Log<O> {
@@ -37,28 +39,49 @@ impl<O: Drop> Log<O> {
         ensures acks { result.acks ≡ [] }
     {
         Log {
-            updates: Vec::new(alloc),
-            acks: Vec::new(alloc),
+            updates: Placed::new(alloc),
+            acks: Placed::new(alloc),
         }
+    }
+
+    /// The law that the items stand in their order.
+    pub fn keeps(&self)
+        ensures { IsOrdered self.now }
+    {
+        let _ = &self.updates;
     }
 
     /// What makes room for more items.
     pub fn allocator(&self) -> Global {
-        *self.updates.allocator()
+        self.updates.allocator()
     }
 
-    /// The logged updates, in the order of their spots.
-    pub fn updates(&self) -> &[LogUpdate<O>]
-        ensures { result.now ≡ self.now.updates }
+    /// The acknowledgements of one place, in the order of their numbers.
+    pub fn acks_of(&self, place: u8) -> &[LogAck]
+        ensures { result.now ≡ items_at (λ a. a.spot) place self.now.acks }
     {
-        self.updates.as_slice()
+        self.acks.at_place(place)
     }
 
-    /// The logged acknowledgements, in the order of their spots.
-    pub fn acks(&self) -> &[LogAck]
-        ensures { result.now ≡ self.now.acks }
+    /// The spots of the logged updates, in their order.
+    pub fn update_spots(&self) -> Result<Rows<Spot>, NoMemory>
+        ensures { IfOk result (λ spots. spots ≡ map (λ u. u.spot) self.now.updates) }
     {
-        self.acks.as_slice()
+        self.updates.spots()
+    }
+
+    /// The spots of the logged acknowledgements, in their order.
+    pub fn ack_spots(&self) -> Result<Rows<Spot>, NoMemory>
+        ensures { IfOk result (λ spots. spots ≡ map (λ a. a.spot) self.now.acks) }
+    {
+        self.acks.spots()
+    }
+
+    /// Copies of the logged acknowledgements, in the order of their spots.
+    pub fn copy_acks(&self) -> Result<Rows<LogAck>, NoMemory>
+        ensures { IfOk result (λ copied. copied ≡ self.now.acks) }
+    {
+        self.acks.copy_items()
     }
 
     /// How many items are logged.
@@ -80,10 +103,7 @@ impl<O: Drop> Log<O> {
     pub fn first_update(&self, cid: Cid) -> Option<&LogUpdate<O>>
         ensures { option_copied result ≡ find (λ u. same_cid u.cid cid) self.now.updates }
     {
-        self.updates
-            .as_slice()
-            .iter()
-            .find(|update| update.cid == cid)
+        self.updates.first_of(cid)
     }
 
     /// The least spot of a logged update of this call.
@@ -98,31 +118,31 @@ impl<O: Drop> Log<O> {
     pub fn ack_of(&self, cid: Cid) -> Option<Spot>
         ensures { result ≡ option_map (λ a. a.spot) (find (λ a. same_cid a.cid cid) self.now.acks) }
     {
-        let ack = self.acks.as_slice().iter().find(|ack| ack.cid == cid)?;
+        let ack = self.acks.first_of(cid)?;
         Some(ack.spot)
     }
 
     /// Logs an update, at its place in the order of spots.
     pub fn add_update(&mut self, update: LogUpdate<O>) -> Result<(), NoMemory>
+        requires free { IsFree self.old update.spot }
         ensures ok { OnOk result (self.new ≡ record self.old { updates = insert_update update self.old.updates }) }
         ensures err { OnErr result (self.new ≡ self.old) }
     {
-        let at = place_of(self.updates.as_slice(), update.spot);
-        self.updates.insert(at, update)?;
+        self.updates.insert(update)?;
         Ok(())
     }
 
     /// Logs an acknowledgement, at its place in the order of spots.
     pub fn add_ack(&mut self, ack: LogAck) -> Result<(), NoMemory>
+        requires free { IsFree self.old ack.spot }
         ensures ok { OnOk result (self.new ≡ record self.old { acks = insert_ack ack self.old.acks }) }
         ensures err { OnErr result (self.new ≡ self.old) }
     {
-        let at = ack_place_of(self.acks.as_slice(), ack.spot);
-        self.acks.insert(at, ack)?;
+        self.acks.insert(ack)?;
         Ok(())
     }
 
-    /// Drops every update.
+    /// Drops every update. It takes no memory.
     pub fn clear_updates(&mut self)
         ensures { self.new ≡ record self.old { updates = [] } }
     {
@@ -134,8 +154,8 @@ impl<O: Drop> Log<O> {
         ensures updates { self.new.updates ≡ filter (λ u. not (is_new_at rep_ts.now u.spot)) self.old.updates }
         ensures acks { self.new.acks ≡ filter (λ a. not (is_new_at rep_ts.now a.spot)) self.old.acks }
     {
-        self.updates.retain(|update| !is_new(rep_ts, update.spot));
-        self.acks.retain(|ack| !is_new(rep_ts, ack.spot));
+        self.updates.drop_new(rep_ts);
+        self.acks.drop_new(rep_ts);
     }
 }
 
@@ -144,93 +164,41 @@ impl<O: Operation> Log<O> {
     pub fn copy(&self) -> Result<Self, NoMemory>
         ensures { IfOk result (λ copied. copied ≡ self.now) }
     {
-        let mut updates = Vec::with_capacity(self.allocator(), self.updates.len())?;
-        for update in self.updates.as_slice() {
-            updates.push(update.copy()?)?;
-        }
-        let acks = Vec::from_slice(self.allocator(), self.acks.as_slice())?;
+        let updates = self.updates.copy()?;
+        let acks = self.acks.copy()?;
         Ok(Log { updates, acks })
     }
 
-    /// Logs these items. Where there is none it takes no memory.
+    /// Copies of the logged updates, in the order of their spots.
+    pub fn copy_updates(&self) -> Result<Rows<LogUpdate<O>>, NoMemory>
+        ensures { IfOk result (λ copied. copied ≡ self.now.updates) }
+    {
+        self.updates.copy_items()
+    }
+
+    /// Logs these items, or none of them. The log isn't copied, and where there are no items it takes no memory.
     pub fn add_all(&mut self, updates: &[&LogUpdate<O>], acks: &[LogAck]) -> Result<(), NoMemory>
+        requires ordered { IsOrdered (items_of (map (λ u. u.now) updates.now) acks.now) }
+        requires free { CanTake self.old (items_of (map (λ u. u.now) updates.now) acks.now) }
         ensures ok { OnOk result (self.new ≡ record self.old {
           updates = all_updates_inserted (map (λ u. u.now) updates.now) self.old.updates;
           acks = all_acks_inserted acks.now self.old.acks;
         }) }
         ensures err { OnErr result (self.new ≡ self.old) }
     {
-        if updates.is_empty() && acks.is_empty() {
-            return Ok(());
-        }
-        let mut log = self.copy()?;
-        insert_updates(&mut log, updates)?;
-        insert_acks(&mut log, acks)?;
-        *self = log;
+        self.updates.insert_all(updates)?;
+        let Ok(()) = self.acks.insert_all(acks) else {
+            self.updates.take_back(updates, updates.len());
+            return Err(NoMemory);
+        };
         Ok(())
     }
 }
 
-fn insert_updates<O: Operation>(log: &mut Log<O>, updates: &[&LogUpdate<O>]) -> Result<(), NoMemory>
-    ensures { OnOk result (log.new ≡ record log.old {
-      updates = all_updates_inserted (map (λ u. u.now) updates.now) log.old.updates;
-    }) }
-{
-    for update in updates {
-        log.add_update(update.copy()?)?;
-    }
-    Ok(())
-}
+impl<O: Drop> Places<O> for Log<O> {
+    ghost updates = { λ log. log.updates };
 
-fn insert_acks<O: Drop>(log: &mut Log<O>, acks: &[LogAck]) -> Result<(), NoMemory>
-    ensures { OnOk result (log.new ≡ record log.old { acks = all_acks_inserted acks.now log.old.acks }) }
-{
-    for ack in acks {
-        log.add_ack(*ack)?;
-    }
-    Ok(())
-}
-
-fn is_before(first: Spot, second: Spot) -> bool
-    ensures { result ≡ spot_is_before first second }
-{
-    first.place < second.place || first.place == second.place && first.number < second.number
-}
-
-// The first logged update behind this spot.
-fn first_behind<O>(updates: &[LogUpdate<O>], spot: Spot) -> Option<usize>
-    ensures { result ≡ position (λ u. spot_is_before spot u.spot) updates.now }
-{
-    updates
-        .iter()
-        .position(|update| is_before(spot, update.spot))
-}
-
-// Where an update of this spot belongs among the others.
-fn place_of<O>(updates: &[LogUpdate<O>], spot: Spot) -> usize
-    ensures place { result ≡ position_or_len (λ u. spot_is_before spot u.spot) updates.now }
-    ensures most { result ≤ length updates.now }
-{
-    match first_behind(updates, spot) {
-        Some(at) => at,
-        None => updates.len(),
-    }
-}
-
-// The first logged acknowledgement behind this spot.
-fn first_ack_behind(acks: &[LogAck], spot: Spot) -> Option<usize>
-    ensures { result ≡ position (λ a. spot_is_before spot a.spot) acks.now }
-{
-    acks.iter().position(|ack| is_before(spot, ack.spot))
-}
-
-// Where an acknowledgement of this spot belongs among the others.
-fn ack_place_of(acks: &[LogAck], spot: Spot) -> usize
-    ensures place { result ≡ position_or_len (λ a. spot_is_before spot a.spot) acks.now }
-    ensures most { result ≤ length acks.now }
-{
-    match first_ack_behind(acks, spot) {
-        Some(at) => at,
-        None => acks.len(),
+    fn updates_of(&self, place: u8) -> &[LogUpdate<O>] {
+        self.updates.at_place(place)
     }
 }

@@ -11,7 +11,7 @@ use Rattle.lr_value.specs.Waiting.{NoneReady}
 use Rattle.lr_value.proofs.Ready.{take_ready-none}
 
 -- something holds of each update of a list
-abbrev Each : {Op : Type 0} → (LogUpdate Op → Type 0) → List (LogUpdate Op) → Type 0
+abbrev pub Each : {Op : Type 0} → (LogUpdate Op → Type 0) → List (LogUpdate Op) → Type 0
 Each P updates = (k : ℕ) → ForSome (slice_get updates k) P
 
 module _ {Op : Type 0} (P : LogUpdate Op → Type 0) where
@@ -20,7 +20,7 @@ module _ {Op : Type 0} (P : LogUpdate Op → Type 0) where
   Each-front u updates own all (suc k) = all k
 
   -- what holds of the one that is taken and of the others holds of all
-  Each-taken : (val_ts : List ℕ) (todo : List (LogUpdate Op)) (taken : LogUpdate Op × List (LogUpdate Op)) → take_ready val_ts todo ≡ Some taken → P taken.0 → Each P taken.1 → Each P todo
+  pub Each-taken : (val_ts : List ℕ) (todo : List (LogUpdate Op)) (taken : LogUpdate Op × List (LogUpdate Op)) → take_ready val_ts todo ≡ Some taken → P taken.0 → Each P taken.1 → Each P todo
   Each-taken val_ts [] taken is own all = let none : None ≡ Some taken = is in λ k x e. cc
   Each-taken val_ts (u ∷ todo) taken is own all = go (λ t found own all. Each-taken val_ts todo t found own all) (stamp_le u.prev val_ts) refl (take_ready val_ts todo) refl
     where
@@ -48,7 +48,7 @@ module _ {Op : Type 0} (P : LogUpdate Op → Type 0) where
 
 module _ {Op : Type 0} where
   -- where none is taken, no causes are applied
-  none-taken : (val_ts : List ℕ) (todo : List (LogUpdate Op)) → take_ready val_ts todo ≡ None → Each (λ u. stamp_le u.prev val_ts ≡ false) todo
+  pub none-taken : (val_ts : List ℕ) (todo : List (LogUpdate Op)) → take_ready val_ts todo ≡ None → Each (λ u. stamp_le u.prev val_ts ≡ false) todo
   none-taken val_ts [] is = λ k x e. let none : None ≡ Some x = e in cc
   none-taken val_ts (u ∷ todo) is = go (λ none. none-taken val_ts todo none) (stamp_le u.prev val_ts) refl (take_ready val_ts todo) refl
     where
@@ -58,7 +58,7 @@ module _ {Op : Type 0} where
       go hyp false ready (Some t) found = let it : Some (t.0, u ∷ t.1) ≡ None = rw (ready, found) at is in λ k x e. cc
 
   -- one fewer waits where one is taken
-  taken-length : (val_ts : List ℕ) (todo : List (LogUpdate Op)) (taken : LogUpdate Op × List (LogUpdate Op)) → take_ready val_ts todo ≡ Some taken → length todo ≡ suc (length taken.1)
+  pub taken-length : (val_ts : List ℕ) (todo : List (LogUpdate Op)) (taken : LogUpdate Op × List (LogUpdate Op)) → take_ready val_ts todo ≡ Some taken → length todo ≡ suc (length taken.1)
   taken-length val_ts [] taken is = let none : None ≡ Some taken = is in cc
   taken-length val_ts (u ∷ todo) taken is = go (λ t found. taken-length val_ts todo t found) (stamp_le u.prev val_ts) refl (take_ready val_ts todo) refl
     where
@@ -83,14 +83,21 @@ module _ {Value Op : Type 0} (m : Meaning Value Op) where
       go true is = rw is refl
       go false is = rw is refl
 
-  one-grows : (p : Progress Value) (u : LogUpdate Op) → stamp_le p.val_ts (apply_one m p u).val_ts ≡ true
+  pub one-grows : (p : Progress Value) (u : LogUpdate Op) → stamp_le p.val_ts (apply_one m p u).val_ts ≡ true
   one-grows p u = rw (one-joins p u) (join-least p.val_ts (stamp_of u)).above_first
 
-  one-covers : (p : Progress Value) (u : LogUpdate Op) → is_covered (apply_one m p u).val_ts u ≡ true
+  pub one-covers : (p : Progress Value) (u : LogUpdate Op) → is_covered (apply_one m p u).val_ts u ≡ true
   one-covers p u = rw (one-joins p u) (join-least p.val_ts (stamp_of u)).above_second
 
+  -- the same at progress that came to the same
+  pub one-grows-at : (p q : Progress Value) (u : LogUpdate Op) → q ≡ apply_one m p u → stamp_le p.val_ts q.val_ts ≡ true
+  one-grows-at p q u is = rw is (one-grows p u)
+
+  pub one-covers-at : (p q : Progress Value) (u : LogUpdate Op) → q ≡ apply_one m p u → is_covered q.val_ts u ≡ true
+  one-covers-at p q u is = rw is (one-covers p u)
+
   -- what was applied stays so
-  all-grows : (turns : ℕ) (todo : List (LogUpdate Op)) (p : Progress Value) → stamp_le p.val_ts (apply_ready m turns todo p).val_ts ≡ true
+  pub all-grows : (turns : ℕ) (todo : List (LogUpdate Op)) (p : Progress Value) → stamp_le p.val_ts (apply_ready m turns todo p).val_ts ≡ true
   all-grows zero todo p = stamp_le-refl p.val_ts
   all-grows (suc turns) todo p = go (λ todo p. all-grows turns todo p) (take_ready p.val_ts todo) refl
     where
@@ -152,7 +159,7 @@ module _ {Op : Type 0} (val_ts : List ℕ) where
       go hyp false is (suc j) e = let e' : slice_get (waiting val_ts updates) j ≡ Some u = rw is at e in hyp j u e'
 
 module _ {Value Op : Type 0} (m : Meaning Value Op) where
-  blocked-idle : (turns : ℕ) (todo : List (LogUpdate Op)) (p : Progress Value) → take_ready p.val_ts todo ≡ None → apply_ready m turns todo p ≡ p
+  pub blocked-idle : (turns : ℕ) (todo : List (LogUpdate Op)) (p : Progress Value) → take_ready p.val_ts todo ≡ None → apply_ready m turns todo p ≡ p
   blocked-idle zero todo p none = refl
   blocked-idle (suc turns) todo p none = rw none refl
 

@@ -1,4 +1,9 @@
 mod Ended
+mod Executed
 mod Facts
+mod Gathered
+mod Left
+mod Numbered
 mod Ready
+mod Settled
 mod Tables

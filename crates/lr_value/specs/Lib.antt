@@ -1,2 +1,4 @@
 pub mod Applied
+pub mod Executing
+pub mod Remembered
 pub mod Waiting

@@ -1,8 +1,14 @@
 -- Updates that wait to be applied, as references into a log.
-use Rattle.std.specs.Prelude.{◌≡◌, ℕ, false, List, map, remove, Some, slice_get}
+use Rattle.std.specs.Prelude.{◌≡◌, ◌==◌, ℕ, false, nat_lt, List, [], ◌∷◌, ◌++◌, filter, if◌then◌else◌, map, remove}
+use Rattle.std.specs.Prelude.{Some, slice_get}
 use Rattle.std.specs.Option.{ForSome}
 use Rattle.std.specs.Borrow.{Bor}
+use Rattle.lr_base.specs.Insertion.{Ascends}
+use Rattle.lr_base.specs.Logged.{AllReceived}
+use Rattle.lr_base.specs.Orders.{IsAmong}
+use Rattle.lr_base.specs.Places.{AreInOrder}
 use Rattle.lr_base.specs.declared.messages.LogUpdate.{LogUpdate}
+use Rattle.lr_base.specs.declared.names.Spot.{Spot}
 use Rattle.lr_base.specs.Rules.{is_covered, take_ready}
 use Rattle.lr_base.specs.Stamps.{Stamp, stamp_le}
 
@@ -19,3 +25,23 @@ TakesAt {Op} val_ts todo at = (u : LogUpdate Op) → slice_get todo at ≡ Some 
 abbrev pub NoneReady : {Op : Type 0} → Stamp → List (LogUpdate Op) → Type 0
 NoneReady val_ts updates = (k : ℕ)
     → ForSome (slice_get updates k) (λ u. is_covered val_ts u ≡ false → stamp_le u.prev val_ts ≡ false)
+
+-- the updates are those of one place, in the order of their numbers
+pub record AreOfPlace {Op : Type 0} (place : ℕ) (updates : List (LogUpdate Op)) : Type 0 where
+  pub ascends : Ascends (λ a b. nat_lt a.spot.number b.spot.number) updates
+  pub together : (k : ℕ) → ForSome (slice_get updates k) (λ u. u.spot.place ≡ place)
+
+-- the updates of one place with a spot's number, where the spot is of that place
+abbrev pub at_spot : {Op : Type 0} → ℕ → Spot → List (LogUpdate Op) → List (LogUpdate Op)
+at_spot place s updates = if s.place == place then filter (λ u. u.spot.number == s.number) updates else []
+
+-- those of one place at the spots, spot after spot
+abbrev pub picked : {Op : Type 0} → ℕ → List Spot → List (LogUpdate Op) → List (LogUpdate Op)
+picked place [] updates = []
+picked place (s ∷ spots) updates = at_spot place s updates ++ picked place spots updates
+
+-- of the updates that waited these are left, in their order: each of the others is covered
+pub record AreLeft {Op : Type 0} (val_ts : Stamp) (todo left : List (LogUpdate Op)) : Type 0 where
+  pub in_order : AreInOrder (λ u. u.spot) todo → AreInOrder (λ u. u.spot) left
+  pub received : (seen : Stamp) → AllReceived seen todo → AllReceived seen left
+  pub others : (k : ℕ) → ForSome (slice_get todo k) (λ u. is_covered val_ts u ≡ false → IsAmong u left)

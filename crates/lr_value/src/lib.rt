@@ -2,6 +2,11 @@
 #![tactic(auto)]
 
 mod applying;
+mod gathering;
+mod memory;
+mod older;
+mod ops;
 mod value;
 
+pub use older::Older;
 pub use value::Value;

@@ -10,6 +10,7 @@ use Rattle.lr_base.specs.declared.acts.Act.{Act}
 use Rattle.lr_base.specs.declared.lr_service.Kind.{Kind}
 use Rattle.lr_base.specs.declared.messages.Call.{Call}
 use Rattle.lr_base.specs.declared.names.Config.{Config}
+use Rattle.lr_causal.specs.Causal.{NoneApplied}
 use Rattle.lr_causal.specs.Savepoint.{IsPointOf, Saved}
 use Rattle.lr_world.proofs.Everywhere.{each-push}
 use Rattle.lr_world.proofs.Outboxing.{after_acts-parts}
@@ -69,6 +70,13 @@ pub IsPointOf-start : {Value Op : Type 0} (p : Saved Value) (state now : CausalS
 IsPointOf-start {Value} {Op} p state now is point = subst (λ (s : CausalState Value Op). IsPointOf p s s) is point
 
 module _ {Value Op : Type 0} (m : Meaning Value Op) where
+  -- where no label is applied, nothing is answered
+  pub held_acts-none : (state : CausalState Value Op) (calls : List (Call Op)) → NoneApplied state.val_ts calls
+      → held_acts m state calls ≡ []
+  held_acts-none state [] none = refl
+  held_acts-none state (call ∷ calls) none =
+      rw (none 0 call refl) (held_acts-none state calls (λ k. none (suc k)))
+
   -- the acts of one query more come behind
   pub held_acts-more : (state : CausalState Value Op) (calls : List (Call Op)) (call : Call Op) → held_acts m state (calls ++ call ∷ []) ≡ held_acts m state calls ++ held_acts m state (call ∷ [])
   held_acts-more state [] call = refl

@@ -91,7 +91,7 @@ module _ {Value Op : Type 0} (kind_of : Op → Kind) (r : ReplicaState Value Op)
       go true is = rw is tt
       go false is =
           rw is (when-parts (taken_before (known_of state.calls cid) (find (λ u. same_cid u.cid cid) state.updates)) (find (λ ack. same_cid ack.cid cid) state.acks)
-          (taken-parts cid (known_of state.calls cid) (find (λ u. same_cid u.cid cid) state.updates) (sound.known cid) (logged-find kind_of parts (λ u. same_cid u.cid cid) state.updates sound.logged)))
+          (taken-parts cid (known_of state.calls cid) (find (λ u. same_cid u.cid cid) state.updates) (sound.known cid) (logged-find kind_of parts (λ u. same_cid u.cid cid) state.updates sound.told.logged)))
 
   -- an update that is accepted
   fitting-call : (call : Call Op) (room number : Bool) → length call.prev ≡ parts → call.cid.client < config.clients → AllFitting kind_of config (call_taken r.me state call room number).acts
@@ -125,7 +125,7 @@ module _ {Value Op : Type 0} (kind_of : Op → Kind) (r : ReplicaState Value Op)
 
   -- what a message makes a replica send itself
   fitting-taken : (m : Meaning Value Op) (from : Actor) (message : Message Op) → IsShaped kind_of config message → AllFitting kind_of config (own_taken m config r.me state from message).acts
-  fitting-taken m (Client client) (Update call time) shaped = fitting-update call (fresh_of config.delta state call.cid time) (again-parts config.delta call.cid time) shaped.parts (ltb-true _ _ shaped.client)
+  fitting-taken m (Client client) (Update call time) shaped = fitting-update call (fresh_of config.delta state call.cid time) (again-parts config.delta call.cid time) shaped.told.rep_parts (ltb-true _ _ shaped.client)
   fitting-taken m (Client client) (Query call) shaped = fitting-query m call (stamp_le call.prev state.val_ts) (ltb-true _ _ shaped.client)
   fitting-taken m (Client client) (Done cid spot stamp) shaped = tt
   fitting-taken m (Client client) (Answer cid text stamp) shaped = tt
@@ -142,7 +142,7 @@ module _ {Value Op : Type 0} (kind_of : Op → Kind) (r : ReplicaState Value Op)
   fitting-own m (Tell to) fits = (
     record {
       to_known = lt-ltb to config.replicas fits;
-      shaped = record { parts = sound.rep_parts; client = refl; kind = refl; logged = sound.logged; updates_received = sound.updates_received; acks_received = sound.acks_received };
+      shaped = record { client = refl; kind = refl; told = sound.told };
     },
     tt,
   )

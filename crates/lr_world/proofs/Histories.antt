@@ -24,18 +24,28 @@ module _ {Value Op : Type 0} (m : Meaning Value Op) (config : Config) where
   pub sent-of : ((config : Config) (steps : List (Step Op)) (run : RunState Value Op) → IsMade m config steps run → IsCentral config (facts_after first_facts steps) run) → (steps : List (Step Op)) (run : RunState Value Op) → ∥ IsMade m config steps run ∥₁ → length run.posted ≡ length (facts_after first_facts steps).messages
   sent-of law steps run made = ∥∥₁_elim made (Coded-set coded_ℕ _ _) (λ it. sym (law config steps run it).count)
 
-  -- a step that was made goes on with the history
-  pub made-more : (event : Event Op) (steps after : List (Step Op)) (run now : RunState Value Op) (lines : List Outcome)
-      → ((config : Config) (steps : List (Step Op)) (run : RunState Value Op) (event : Event Op) → IsMade m config steps run → IsEventOf m config event
+  -- a step that was made goes on with the history, under the same configuration by another name
+  pub made-more : (setup given : Config) (event : Event Op) (steps after : List (Step Op)) (run now : RunState Value Op)
+      (lines : List Outcome)
+      → ((config : Config) (steps : List (Step Op)) (run : RunState Value Op) (event : Event Op)
+      → IsMade m config steps run → IsEventOf m config event
       → IsMade m config (steps ++ made_step m run event ∷ []) (stepped m run event).run)
-      → IsEventOf m config event → now ≡ (stepped m run event).run → lines ≡ (stepped m run event).outcomes
-      → after ≡ steps ++ record { event = event; outcomes = lines } ∷ [] → ∥ IsMade m config steps run ∥₁ → ∥ IsMade m config after now ∥₁
-  made-more event steps after run now lines law fits goes printed noted made =
-      let same : after ≡ steps ++ made_step m run event ∷ [] = noted ∙ ap (λ (ls : List Outcome). steps ++ record { event = event; outcomes = ls } ∷ []) printed in
-      ∥∥₁_map made (λ it. subst (λ (r : RunState Value Op). IsMade m config after r) (sym goes)
-      (subst (λ (s : List (Step Op)). IsMade m config s (stepped m run event).run) (sym same) (law config steps run event it fits)))
+      → setup ≡ config → config ≡ given → IsEventOf m given event → now ≡ (stepped m run event).run
+      → lines ≡ (stepped m run event).outcomes → after ≡ steps ++ record { event = event; outcomes = lines } ∷ []
+      → ∥ IsMade m config steps run ∥₁ → ∥ IsMade m setup after now ∥₁
+  made-more setup given event steps after run now lines law is named fits goes printed noted made =
+      let same : after ≡ steps ++ made_step m run event ∷ [] =
+      noted ∙ ap (λ (ls : List Outcome). steps ++ record { event = event; outcomes = ls } ∷ []) printed in
+      let fits' : IsEventOf m config event = subst (λ (c : Config). IsEventOf m c event) (sym named) fits in
+      ∥∥₁_map made (λ it. subst (λ (c : Config). IsMade m c after now) (sym is)
+      (subst (λ (r : RunState Value Op). IsMade m config after r) (sym goes)
+      (subst (λ (s : List (Step Op)). IsMade m config s (stepped m run event).run) (sym same)
+      (law config steps run event it fits'))))
 
   -- and the history stays where nothing was made
-  pub made-same : (steps after : List (Step Op)) (run now : RunState Value Op) → now ≡ run → after ≡ steps → ∥ IsMade m config steps run ∥₁ → ∥ IsMade m config after now ∥₁
-  made-same steps after run now same_run same_steps made =
-      ∥∥₁_map made (λ it. subst (λ (r : RunState Value Op). IsMade m config after r) (sym same_run) (subst (λ (s : List (Step Op)). IsMade m config s run) (sym same_steps) it))
+  pub made-same : (setup : Config) (steps after : List (Step Op)) (run now : RunState Value Op) → setup ≡ config
+      → now ≡ run → after ≡ steps → ∥ IsMade m config steps run ∥₁ → ∥ IsMade m setup after now ∥₁
+  made-same setup steps after run now is same_run same_steps made =
+      ∥∥₁_map made (λ it. subst (λ (c : Config). IsMade m c after now) (sym is)
+      (subst (λ (r : RunState Value Op). IsMade m config after r) (sym same_run)
+      (subst (λ (s : List (Step Op)). IsMade m config s run) (sym same_steps) it)))

@@ -3,7 +3,8 @@ pub mod Outboxing
 pub mod Answering
 pub mod Shaped
 pub mod FrontCalls
-pub mod RunLemmas
+pub mod Reading
+mod RunLemmas
 pub mod SortedCalls
 pub mod Histories
 pub mod Fitting

@@ -2,8 +2,6 @@
 use Rattle.std.proofs.Common.{◌≡◌, ◌+◌, ◌<◌, ◌∙◌, ℕ, Bool, true, false, List, [], ◌∷◌, ◌++◌, length, not, Option, None, Some, Result, Ok, Err, OnErr, OnOk, lt-ltb, ltb-true, refl, subst, sym, ap, append-nil, append_assoc, arith, get_or}
 use Rattle.lr_base.specs.Fronts.{FrontState, front_on_call, front_on_message, is_open, message_of, reply_acts}
 use Rattle.lr_base.specs.Kinds.{is_query}
-use Rattle.lr_base.specs.Logged.{IsLogged}
-use Rattle.lr_base.specs.Rules.{is_new}
 use Rattle.lr_base.specs.declared.acts.Act.{Act}
 use Rattle.lr_base.specs.declared.acts.Act.TheVariants.{Say, Send}
 use Rattle.lr_base.specs.declared.acts.Posted.{Posted}
@@ -12,8 +10,6 @@ use Rattle.lr_base.specs.declared.events.Refusal.TheVariants.{Unfinished, Worn}
 use Rattle.lr_base.specs.declared.lr_service.Kind.{Kind}
 use Rattle.lr_base.specs.declared.lr_service.Kind.TheVariants.{Query, Causal, Forced, Immediate}
 use Rattle.lr_base.specs.declared.messages.Gossip.{Gossip}
-use Rattle.lr_base.specs.declared.messages.LogAck.{LogAck}
-use Rattle.lr_base.specs.declared.messages.LogUpdate.{LogUpdate}
 use Rattle.lr_base.specs.declared.messages.Message.{Message}
 use Rattle.lr_base.specs.declared.messages.Message.TheVariants.{Update as UpdateMessage, Query as QueryMessage, Done, Answer, Gossip as GossipMessage}
 use Rattle.lr_base.specs.declared.names.Actor.{Actor}
@@ -21,6 +17,7 @@ use Rattle.lr_base.specs.declared.names.Actor.TheVariants.{Replica}
 use Rattle.lr_base.specs.declared.names.Cid.{Cid}
 use Rattle.lr_base.specs.declared.names.Config.{Config}
 use Rattle.lr_causal.specs.Causal.{IsGossip}
+use Rattle.lr_causal.specs.GossipLaws.{IsGossip-empty}
 use Rattle.lr_graph.specs.Runs.{act_posts}
 use Rattle.lr_world.proofs.Everywhere.{each-append, each-none, each-push}
 use Rattle.lr_world.specs.Posts.{AllPosted, IsPosted}
@@ -28,14 +25,13 @@ use Rattle.lr_world.specs.Shapes.{AllFitting, IsShaped, acks_in, has_client, has
 
 module _ {Op : Type 0} (kind_of : Op → Kind) (config : Config) where
   -- a message that tells no update and no acknowledgement has its shape
-  pub shaped-plain : (message : Message Op) → updates_in message ≡ [] → acks_in message ≡ [] → length (stamp_in message) ≡ config.replicas + 1 → has_client config message ≡ true → has_kind kind_of message ≡ true → IsShaped kind_of config message
+  pub shaped-plain : (message : Message Op) → updates_in message ≡ [] → acks_in message ≡ []
+      → length (stamp_in message) ≡ config.replicas + 1 → has_client config message ≡ true
+      → has_kind kind_of message ≡ true → IsShaped kind_of config message
   shaped-plain message no_updates no_acks parts client kind = record {
-    parts = parts;
     client = client;
     kind = kind;
-    logged = rw no_updates (each-none (λ (k : ℕ) u. IsLogged kind_of (config.replicas + 1) u));
-    updates_received = rw no_updates (each-none (λ (k : ℕ) (u : LogUpdate Op). is_new (stamp_in message) u.spot ≡ false));
-    acks_received = rw no_acks (each-none (λ (k : ℕ) (a : LogAck). is_new (stamp_in message) a.spot ≡ false));
+    told = rw (no_updates, no_acks) (IsGossip-empty kind_of (config.replicas + 1) (stamp_in message) parts);
   }
 
   -- the message of a call has its shape
@@ -48,8 +44,7 @@ module _ {Op : Type 0} (kind_of : Op → Kind) (config : Config) where
   -- gossip of this run can be taken
   pub IsGossip-shaped : (message : Message Op) (gossip : Gossip Op) → message ≡ GossipMessage gossip → IsShaped kind_of config message → IsGossip kind_of (config.replicas + 1) gossip
   IsGossip-shaped message gossip is shaped =
-      let own : IsShaped kind_of config (GossipMessage gossip) = subst (IsShaped kind_of config) is shaped in
-      record { rep_parts = own.parts; logged = own.logged; updates_received = own.updates_received; acks_received = own.acks_received }
+      let own : IsShaped kind_of config (GossipMessage gossip) = subst (IsShaped kind_of config) is shaped in own.told
 
   -- what a front end that is called does may be sent
   pub fitting-call : (front : FrontState) (replica reading : ℕ) (op : Op) (kind : Kind) (open_call : Option Cid) (worn : Bool) → kind_of op ≡ kind → length front.label ≡ config.replicas + 1 → front.client < config.clients → replica < config.replicas

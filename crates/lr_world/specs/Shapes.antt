@@ -1,5 +1,5 @@
 -- What every message and every act of a run keeps.
-use Rattle.std.specs.Prelude.{◌≡◌, ◌+◌, ℕ, Bool, true, not, List, [], ◌∷◌, length, nat_lt}
+use Rattle.std.specs.Prelude.{◌≡◌, ◌+◌, ℕ, Bool, true, not, List, [], ◌∷◌, nat_lt}
 use Rattle.lr_base.specs.Kinds.{is_query}
 use Rattle.lr_base.specs.declared.lr_service.Kind.{Kind}
 use Rattle.lr_base.specs.declared.names.Actor.{Actor}
@@ -7,11 +7,12 @@ use Rattle.lr_base.specs.declared.names.Actor.TheVariants.{Client, Replica}
 use Rattle.lr_base.specs.declared.names.Config.{Config}
 use Rattle.lr_base.specs.declared.acts.Act.{Act}
 use Rattle.lr_base.specs.declared.acts.Act.TheVariants.{Say, Send}
-use Rattle.lr_base.specs.Logged.{AllAcksReceived, AllLogged, AllReceived}
+use Rattle.lr_base.specs.declared.messages.Gossip.{Gossip}
 use Rattle.lr_base.specs.declared.messages.LogAck.{LogAck}
 use Rattle.lr_base.specs.declared.messages.LogUpdate.{LogUpdate}
 use Rattle.lr_base.specs.declared.messages.Message.{Message}
-use Rattle.lr_base.specs.declared.messages.Message.TheVariants.{Update, Query, Done, Answer, Gossip}
+use Rattle.lr_base.specs.declared.messages.Message.TheVariants.{Update, Query, Done, Answer, Gossip as GossipMessage}
+use Rattle.lr_causal.specs.Causal.{IsGossip}
 
 -- the stamp that a message carries
 abbrev pub stamp_in : {Op : Type 0} → Message Op → List ℕ
@@ -19,7 +20,7 @@ stamp_in (Update call time) = call.prev
 stamp_in (Query call) = call.prev
 stamp_in (Done cid spot stamp) = stamp
 stamp_in (Answer cid text stamp) = stamp
-stamp_in (Gossip gossip) = gossip.rep_ts
+stamp_in (GossipMessage gossip) = gossip.rep_ts
 
 -- whether the client whose call a message is about is one of the run's; gossip is about none
 abbrev pub has_client : {Op : Type 0} → Config → Message Op → Bool
@@ -27,7 +28,7 @@ has_client config (Update call time) = nat_lt call.cid.client config.clients
 has_client config (Query call) = nat_lt call.cid.client config.clients
 has_client config (Done cid spot stamp) = nat_lt cid.client config.clients
 has_client config (Answer cid text stamp) = nat_lt cid.client config.clients
-has_client config (Gossip gossip) = true
+has_client config (GossipMessage gossip) = true
 
 -- the updates that a message tells
 abbrev pub updates_in : {Op : Type 0} → Message Op → List (LogUpdate Op)
@@ -35,7 +36,7 @@ updates_in (Update call time) = []
 updates_in (Query call) = []
 updates_in (Done cid spot stamp) = []
 updates_in (Answer cid text stamp) = []
-updates_in (Gossip gossip) = gossip.updates
+updates_in (GossipMessage gossip) = gossip.updates
 
 -- the acknowledgements that a message tells
 abbrev pub acks_in : {Op : Type 0} → Message Op → List LogAck
@@ -43,7 +44,7 @@ acks_in (Update call time) = []
 acks_in (Query call) = []
 acks_in (Done cid spot stamp) = []
 acks_in (Answer cid text stamp) = []
-acks_in (Gossip gossip) = gossip.acks
+acks_in (GossipMessage gossip) = gossip.acks
 
 -- an update message holds an update, and a query message a query
 abbrev pub has_kind : {Op : Type 0} → (Op → Kind) → Message Op → Bool
@@ -51,22 +52,22 @@ has_kind kind_of (Update call time) = not (is_query (kind_of call.op))
 has_kind kind_of (Query call) = is_query (kind_of call.op)
 has_kind kind_of (Done cid spot stamp) = true
 has_kind kind_of (Answer cid text stamp) = true
-has_kind kind_of (Gossip gossip) = true
+has_kind kind_of (GossipMessage gossip) = true
 
 -- whether there is such a client or such a replica
 abbrev pub is_actor : Config → Actor → Bool
 is_actor config (Client client) = nat_lt client config.clients
 is_actor config (Replica replica) = nat_lt replica config.replicas
 
--- a message of this run: its stamp has a part for each place, its client is one of the run's, and what it tells can be
--- logged and was received
+-- what a message tells by its stamp, as gossip does
+abbrev pub told_in : {Op : Type 0} → Message Op → Gossip Op
+told_in message = record { rep_ts = stamp_in message; updates = updates_in message; acks = acks_in message }
+
+-- a message of this run: its client is one of the run's, it holds what it is for, and what it tells can be taken
 pub record IsShaped {Op : Type 0} (kind_of : Op → Kind) (config : Config) (message : Message Op) : Type 0 where
-  pub parts : length (stamp_in message) ≡ config.replicas + 1
   pub client : has_client config message ≡ true
   pub kind : has_kind kind_of message ≡ true
-  pub logged : AllLogged kind_of (config.replicas + 1) (updates_in message)
-  pub updates_received : AllReceived (stamp_in message) (updates_in message)
-  pub acks_received : AllAcksReceived (stamp_in message) (acks_in message)
+  pub told : IsGossip kind_of (config.replicas + 1) (told_in message)
 
 -- whoever gets a message of this run is one of the run's clients or replicas
 pub record IsSendable {Op : Type 0} (kind_of : Op → Kind) (config : Config) (to : Actor)

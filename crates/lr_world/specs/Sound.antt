@@ -2,11 +2,13 @@
 use Rattle.std.specs.Prelude.{◌≡◌, ◌+◌, ◌<◌, ℕ, List, length, slice_get}
 use Rattle.std.specs.Option.{ForSome}
 use Rattle.lr_base.specs.Kinds.{IsQuery}
-use Rattle.lr_base.specs.Logged.{AllAcksReceived, AllKnown, AllLogged, AllReceived}
+use Rattle.lr_base.specs.Logged.{AllKnown}
 use Rattle.lr_base.specs.Replicas.{ReplicaState}
 use Rattle.lr_base.specs.declared.lr_service.Kind.{Kind}
 use Rattle.lr_base.specs.declared.messages.Call.{Call}
 use Rattle.lr_base.specs.declared.names.Config.{Config}
+use Rattle.lr_base.specs.Rules.{gossip_of}
+use Rattle.lr_causal.specs.Causal.{IsGossip}
 
 -- a query of this run: its label has a part for each place, its client is one of the run's, and it only reads
 pub record IsAsked {Op : Type 0} (kind_of : Op → Kind) (config : Config) (call : Call Op) : Type 0 where
@@ -18,15 +20,12 @@ pub record IsAsked {Op : Type 0} (kind_of : Op → Kind) (config : Config) (call
 abbrev pub AllAsked : {Op : Type 0} → (Op → Kind) → Config → List (Call Op) → Type 0
 AllAsked kind_of config calls = (k : ℕ) → ForSome (slice_get calls k) (IsAsked kind_of config)
 
--- a replica of its run: each stamp has a part for each place, each item was received, and each held query is one of the
--- run
+-- a replica of its run: each stamp has a part for each place, what it would tell can be taken, and each held query is
+-- one of the run
 pub record IsSound {Value Op : Type 0} (kind_of : Op → Kind) (r : ReplicaState Value Op) : Type 0 where
   pub own_place : r.me < r.config.replicas
-  pub rep_parts : length r.causal.rep_ts ≡ r.config.replicas + 1
   pub val_parts : length r.causal.val_ts ≡ r.config.replicas + 1
   pub imm_parts : length r.causal.imm_ts ≡ r.config.replicas + 1
-  pub logged : AllLogged kind_of (r.config.replicas + 1) r.causal.updates
-  pub updates_received : AllReceived r.causal.rep_ts r.causal.updates
-  pub acks_received : AllAcksReceived r.causal.rep_ts r.causal.acks
+  pub told : IsGossip kind_of (r.config.replicas + 1) (gossip_of r.causal)
   pub known : AllKnown (r.config.replicas + 1) r.causal.calls
   pub asked : AllAsked kind_of r.config r.causal.held

@@ -67,7 +67,7 @@ impl<S: Service> Replica<S> {
     pub fn keeps(&self)
         ensures { IsSound S.Op.kind_of self.now }
     {
-        let _ = &self.causal;
+        self.causal.log().keeps();
     }
 
     /// Does a task up to what can't fail, or nothing at all. Then `finish` ends the step, or `undo` takes it back.
@@ -95,9 +95,11 @@ impl<S: Service> Replica<S> {
     }
 
     /// Ends a step: answered queries are held no more, and what is known everywhere leaves. It takes no memory.
-    pub fn finish(&mut self)
+    pub fn finish(&mut self, point: Savepoint<S>)
+        requires { (before : CausalState S S.Op) × IsPointOf point self.old.causal before }
         ensures { self.new ≡ record self.old { causal = finished self.old.config.replicas self.old.causal } }
     {
+        self.causal.close(point);
         self.causal.drop_answered();
         self.causal.prune();
     }
@@ -294,11 +296,14 @@ impl<S: Service> Replica<S> {
         self.answer_held(out)
     }
 
-    // Each held query whose label is now applied is answered.
+    // Each held query whose label is now applied is answered. Where none is, it looks at none.
     fn answer_held(&self, out: &mut Outbox<S::Op>) -> Result<(), NoMemory>
         ensures { let it = self.now.causal in
             OnOk result (out.new ≡ after_acts out.old (held_acts S.meaning it it.held)) }
     {
+        if self.causal.all_wait() {
+            return Ok(());
+        }
         for call in self.causal.held() {
             self.answer(call, out)?;
         }
@@ -335,33 +340,13 @@ impl<S: Service> Replica<S> {
             view: 0,
             clock: self.causal.clock(),
             received: self.causal.rep_ts().copy(),
-            log: self.logged_updates()?,
-            acks: self.logged_acks()?,
+            log: self.causal.log().update_spots()?,
+            acks: self.causal.log().ack_spots()?,
             calls: self.executed_calls()?,
             held: self.held_calls()?,
             marks: Rows::new(self.allocator()),
         };
         Ok(Outcome::State { line })
-    }
-
-    fn logged_updates(&self) -> Result<Rows<Spot>, NoMemory>
-        ensures { IfOk result (λ spots. spots ≡ map (λ u. u.spot) self.now.causal.updates) }
-    {
-        let mut spots = Rows::new(self.allocator());
-        for update in self.causal.log().updates() {
-            spots.push(update.spot)?;
-        }
-        Ok(spots)
-    }
-
-    fn logged_acks(&self) -> Result<Rows<Spot>, NoMemory>
-        ensures { IfOk result (λ spots. spots ≡ map (λ a. a.spot) self.now.causal.acks) }
-    {
-        let mut spots = Rows::new(self.allocator());
-        for ack in self.causal.log().acks() {
-            spots.push(ack.spot)?;
-        }
-        Ok(spots)
     }
 
     // The executed calls, ascending.

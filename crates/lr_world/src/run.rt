@@ -124,7 +124,8 @@ impl<S: Service> Run<S> {
     /// Ends a step. It takes no memory.
     #[inline(always)]
     pub(crate) fn finish(&mut self, pending: Pending<S>)
-        requires { IsActing (setup_of self.old) pending.who }
+        requires acting { IsActing (setup_of self.old) pending.who }
+        requires begun { (before : RunState S S.Op) × CanTakeBack pending before (run_of self.old) }
         ensures setup { setup_of self.new ≡ setup_of self.old }
         ensures run { run_of self.new ≡ completed pending.who (run_of self.old) }
         ensures lines { lines_of self.new ≡ lines_of self.old }
@@ -132,7 +133,7 @@ impl<S: Service> Run<S> {
         match pending.who {
             Acting::Nobody => (),
             Acting::AtFront { client, front } => put_front(&mut self.fronts, client, front),
-            Acting::AtReplica { me, point: _point } => self.replicas[me as usize].finish(),
+            Acting::AtReplica { me, point } => self.replicas[me as usize].finish(point),
         }
     }
 

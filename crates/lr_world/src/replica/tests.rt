@@ -51,8 +51,8 @@ fn whole_step(
     let mut out = Outbox::new(alloc);
     out.open(Actor::Replica(0), 0);
     let from = Actor::Client(0);
-    let _point = replica.begin(Task::Take { from, message }, &mut out)?;
-    replica.finish();
+    let point = replica.begin(Task::Take { from, message }, &mut out)?;
+    replica.finish(point);
     Ok(out)
 }
 

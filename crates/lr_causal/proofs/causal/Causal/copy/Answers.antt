@@ -4,6 +4,7 @@ use Rattle.lr_causal.proofs.Facts.{AllLogged-along}
 use Rattle.lr_causal.proofs.Received.{AllAcksReceived-along, AllReceived-along}
 use Rattle.lr_causal.proofs.StampRows.{AllStamps-along}
 use Rattle.lr_causal.proofs.Tables.{AllKnown-along}
+use Rattle.lr_causal.proofs.Waiting.{NoneApplied-along}
 use Rattle.lr_causal.proofs.causal.Causal.copy.Goals as goal
 
 pub invariant_of-result-clause-logged : goal.invariant_of-result-clause-logged
@@ -24,3 +25,9 @@ invariant_of-result-clause-updates_received g c =
 pub invariant_of-result-clause-acks_received : goal.invariant_of-result-clause-acks_received
 invariant_of-result-clause-acks_received g c =
     AllAcksReceived-along c.args.self.now.rep_ts _ c.args.self.now.log.acks c.in_ok-log.log.acks c.copy-4.ensures (ap (λ (log : Items _). log.acks) c.in_ok-log.ensures) c.args.self.now.acks_received
+
+pub invariant_of-result-clause-waits : goal.invariant_of-result-clause-waits
+invariant_of-result-clause-waits g c known =
+    let it = c.args.self.now in
+    NoneApplied-along it.value.val_ts _ it.held.items _ (ap (λ v. v.val_ts) c.in_ok-value.ensures)
+    (c.in_ok-held.ensures ∙ c.as_slice-2.ensures.value) (it.waits known)

@@ -1,11 +1,17 @@
-use Rattle.std.proofs.Common.{◌≡◌, ◌∙◌, ap, refl, rules, sym}
+use Rattle.std.proofs.Common.{◌≡◌, ◌∙◌, ap, refl, rules, subst, sym}
 use Rattle.lr_base.specs.Rules.{gossip_taken, new_acks, new_updates}
-use Rattle.lr_log.specs.Items.{Items}
+use Rattle.lr_base.specs.StampLaws.{join-least}
+use Rattle.lr_base.specs.Stamps.{join}
+use Rattle.lr_log.specs.ItemLaws.{CanTake-new, IsOrdered-new}
+use Rattle.lr_log.specs.Items.{CanTake, IsOrdered, Items, items_of}
 use Rattle.lr_value.specs.Waiting.{behind}
+use Rattle.lr_causal.specs.Causal.{HasSeen}
+use Rattle.lr_causal.specs.GossipLaws.{IsOrdered-of}
 use Rattle.lr_causal.specs.State.{state_of}
 use Rattle.lr_causal.proofs.Facts.{AllLogged-gained, AllLogged-same}
 use Rattle.lr_causal.proofs.Points.{point-same, point-taken}
 use Rattle.lr_causal.proofs.Received.{AllAcksReceived-along, AllAcksReceived-gained, AllReceived-along, AllReceived-gained}
+use Rattle.lr_causal.proofs.Remembering.{HasSeen-later, Remembers-along, Remembers-gained}
 use Rattle.lr_causal.proofs.StampRows.{AllStamps-count}
 use Rattle.lr_causal.proofs.causal.Causal.take_gossip.Goals as goal
 
@@ -40,6 +46,56 @@ invariant_of-self-clause-updates_received g c = AllReceived-along _ _ c.args.sel
 
 pub invariant_of-self-clause-acks_received : goal.invariant_of-self-clause-acks_received
 invariant_of-self-clause-acks_received g c = AllAcksReceived-along _ _ c.args.self.now.log.acks c.add_all.new.self.acks refl (ap (λ (log : Items _). log.acks) c.in_default.ensures.err) c.args.self.now.acks_received
+
+pub add_all-requires-clause-ordered : goal.add_all-requires-clause-ordered
+add_all-requires-clause-ordered g c =
+    let it = c.args.self.now in
+    let gossip = c.args.gossip.now in
+    let told : behind c.as_slice-3.result.now ≡ new_updates c.args.self.now.rep_ts c.args.gossip.now.updates =
+    ap behind c.as_slice-3.ensures.value ∙ c.in_ok-updates.ensures
+    ∙ ap (λ us. new_updates c.args.self.now.rep_ts us) c.as_slice.ensures in
+    let told_acks : c.as_slice-4.result.now ≡ new_acks c.args.self.now.rep_ts c.args.gossip.now.acks =
+    c.as_slice-4.ensures.value ∙ c.in_ok-acks.ensures
+    ∙ ap (λ as'. new_acks c.args.self.now.rep_ts as') c.as_slice-2.ensures in
+    subst (λ us. IsOrdered (items_of us c.as_slice-4.result.now)) (sym told)
+    (subst (λ as'. IsOrdered (items_of (new_updates it.rep_ts gossip.updates) as')) (sym told_acks)
+    (IsOrdered-new it.rep_ts (items_of gossip.updates gossip.acks)
+    (IsOrdered-of gossip.updates gossip.acks c.requires.gossip.ordered)))
+
+pub add_all-requires-clause-free : goal.add_all-requires-clause-free
+add_all-requires-clause-free g c =
+    let it = c.args.self.now in
+    let gossip = c.args.gossip.now in
+    let told : behind c.as_slice-3.result.now ≡ new_updates c.args.self.now.rep_ts c.args.gossip.now.updates =
+    ap behind c.as_slice-3.ensures.value ∙ c.in_ok-updates.ensures
+    ∙ ap (λ us. new_updates c.args.self.now.rep_ts us) c.as_slice.ensures in
+    let told_acks : c.as_slice-4.result.now ≡ new_acks c.args.self.now.rep_ts c.args.gossip.now.acks =
+    c.as_slice-4.ensures.value ∙ c.in_ok-acks.ensures
+    ∙ ap (λ as'. new_acks c.args.self.now.rep_ts as') c.as_slice-2.ensures in
+    subst (λ us. CanTake it.log (items_of us c.as_slice-4.result.now)) (sym told)
+    (subst (λ as'. CanTake it.log (items_of (new_updates it.rep_ts gossip.updates) as')) (sym told_acks)
+    (CanTake-new it.rep_ts it.log (items_of gossip.updates gossip.acks) it.updates_received it.acks_received))
+
+pub invariant_of-self-2-clause-remembers : goal.invariant_of-self-2-clause-remembers
+invariant_of-self-2-clause-remembers g c =
+    let it = c.args.self.now in
+    let told : behind c.as_slice-3.result.now ≡ new_updates c.args.self.now.rep_ts c.args.gossip.now.updates =
+    ap behind c.as_slice-3.ensures.value ∙ c.in_ok-updates.ensures
+    ∙ ap (λ us. new_updates c.args.self.now.rep_ts us) c.as_slice.ensures in
+    Remembers-gained it.value it.rep_ts it.seen c.args.gossip.now.updates _ it.log.updates c.add_all.new.self.updates told
+    (ap (λ (log : Items _). log.updates) c.in-Ok.ensures.ok) it.remembers
+
+pub invariant_of-self-2-clause-seen : goal.invariant_of-self-2-clause-seen
+invariant_of-self-2-clause-seen g c =
+    let it = c.args.self.now in
+    let told = c.args.gossip.now.rep_ts in
+    subst (λ rep_ts. HasSeen rep_ts it.value.memory) (sym c.join.ensures.joined)
+    (HasSeen-later it.rep_ts (join it.rep_ts told) it.value.memory (join-least it.rep_ts told).above_first it.seen)
+
+pub invariant_of-self-clause-remembers : goal.invariant_of-self-clause-remembers
+invariant_of-self-clause-remembers g c =
+    let it = c.args.self.now in
+    Remembers-along it.value it.log.updates _ (ap (λ (log : Items _). log.updates) c.in_default.ensures.err) it.remembers
 
 pub returns-clause-undo : goal.returns-clause-undo
 returns-clause-undo g c = record {

@@ -1,10 +1,175 @@
-use Rattle.std.proofs.lemmas.Result.{on_ok_weaker}
-use Rattle.lr_value.specs.Applied.{progress}
-use Rattle.lr_value.proofs.Ended.{none-ready-at}
+use Rattle.std.proofs.Common.{◌≡◌, ◌∙◌, Bool, true, true≢false, Option, Some, None, length, ap, sym, refl, subst, List, ℕ, not}
+use Rattle.std.specs.Prelude.{IsNone, is_some}
+use Rattle.std.specs.Borrow.{Bor}
+use Rattle.lr_base.specs.declared.messages.LogUpdate.{LogUpdate}
+use Rattle.lr_base.specs.Logged.{AllReceived, Fits}
+use Rattle.lr_base.specs.Places.{AreInOrder}
+use Rattle.lr_base.specs.Rules.{is_covered, take_ready, waiting}
+use Rattle.lr_base.specs.StampLaws.{stamp_le-refl}
+use Rattle.lr_value.specs.Applied.{Applied, all_ready, progress, progress_at}
+use Rattle.lr_value.specs.Executing.{HasApplied}
+use Rattle.lr_value.specs.Remembered.{Recalls}
+use Rattle.lr_value.specs.Waiting.{AreLeft, behind}
+use Rattle.lr_value.proofs.Ended.{blocked-idle, idle, none-ready-at}
+use Rattle.lr_value.proofs.Executed.{has-applied}
+use Rattle.lr_value.proofs.Facts.{AllFit-logged, AllLogged-along, AllLogged-filter}
+use Rattle.lr_value.proofs.Left.{left-all}
+use Rattle.lr_value.proofs.Numbered.{index-filter}
+use Rattle.lr_value.proofs.Settled.{ready-at, ready-grows, settled-after, settled-before, waiting-received}
 use Rattle.lr_value.proofs.value.Value.apply_ready.Goals as goal
 
-pub returns-clause-ended : goal.returns-clause-ended
-returns-clause-ended g c =
-    on_ok_weaker c.apply_logged.result
-    (none-ready-at g.S.Service.meaning c.args.updates.now (progress c.args.self.now (g.E.Executed.known c.args.calls.now)) (progress c.apply_logged.new.value (g.E.Executed.known c.apply_logged.new.calls)))
-    c.apply_logged.ensures.ok
+-- where it was tested that there is nothing, there is nothing
+none-is : {X : Type 0} (o : Option X) (b : Bool) → is_some o ≡ not b → b ≡ true → IsNone o
+none-is None b tested is = refl
+none-is (Some x) b tested is = absurd (true≢false (tested ∙ ap not is))
+
+pub returns-then-has_seen-clause-ok : goal.returns-then-has_seen-clause-ok
+returns-then-has_seen-clause-ok g c =
+    let updates = g.L.Places.updates c.args.log.now in
+    let settled = settled-before c.args.self.now updates c.args.received.now (c.has_seen.ensures c.if-has_seen.true)
+    c.requires.all_received c.requires.remembered in
+    sym (idle g.S.Service.meaning updates (progress c.args.self.now (g.E.Executed.known c.args.calls.now))
+    settled.none_ready)
+
+pub returns-then-has_seen-clause-applied : goal.returns-then-has_seen-clause-applied
+returns-then-has_seen-clause-applied g c =
+    let p = progress c.args.self.now (g.E.Executed.known c.args.calls.now) in
+    has-applied g.S.Service.meaning (g.L.Places.updates c.args.log.now) p p (returns-then-has_seen-clause-ok g c)
+
+pub returns-then-has_seen-clause-settled : goal.returns-then-has_seen-clause-settled
+returns-then-has_seen-clause-settled g c =
+    settled-before c.args.self.now (g.L.Places.updates c.args.log.now) c.args.received.now
+    (c.has_seen.ensures c.if-has_seen.true) c.requires.all_received c.requires.remembered
+
+pub gathered-requires-clause-fit : goal.gathered-requires-clause-fit
+gathered-requires-clause-fit g c =
+    AllFit-logged g.S.Op.Operation.kind_of _ _ (g.L.Places.updates c.args.log.now) _ refl
+    (ap (λ (v : Applied _). length v.val_ts) c.self.view_is) c.requires.logged
+
+pub gathered-requires-clause-memory : goal.gathered-requires-clause-memory
+gathered-requires-clause-memory g c x is =
+    let updates = g.L.Places.updates c.args.log.now in
+    let stamp : c.self.inside.val_ts ≡ c.args.self.now.val_ts = ap (λ (v : Applied _). v.val_ts) c.self.view_is in
+    let same : c.self.inside.memory ≡ c.args.self.now.memory = ap (λ (v : Applied _). v.memory) c.self.view_is in
+    let recalls : Recalls c.args.self.now.val_ts updates x = c.requires.remembered x (sym same ∙ is) in
+    record { parts = c.self.invariant.1 x is; recalls = rw stamp recalls }
+
+pub first_ready-requires : goal.first_ready-requires
+first_ready-requires g c =
+    let updates = g.L.Places.updates c.args.log.now in
+    index-filter (Fits (length c.self.inside.val_ts)) (λ u. not (is_covered c.self.inside.val_ts u)) updates
+    (behind c.as_slice.result.now) (ap behind c.as_slice.ensures.value ∙ c.in_ok-waiting.ensures.waiting)
+    (AllFit-logged g.S.Op.Operation.kind_of _ _ updates _ refl
+    (ap (λ (v : Applied _). length v.val_ts) c.self.view_is) c.requires.logged)
+
+pub of-requires-clause-in_order : goal.of-requires-clause-in_order
+of-requires-clause-in_order g c =
+    subst (λ (l : List (Bor (LogUpdate _))). AreInOrder (λ u. u.spot) (behind l))
+    (sym c.as_slice-then-is_none.ensures.value) c.in_ok-waiting.ensures.in_order
+
+pub of-requires-clause-received : goal.of-requires-clause-received
+of-requires-clause-received g c =
+    waiting-received c.self.inside.val_ts c.args.received.now (g.L.Places.updates c.args.log.now) _
+    (ap behind c.as_slice-then-is_none.ensures.value ∙ c.in_ok-waiting.ensures.waiting) c.requires.all_received
+
+pub returns-then-is_none-clause-applied : goal.returns-then-is_none-clause-applied
+returns-then-is_none-clause-applied g c =
+    let m = g.S.Service.meaning in
+    let updates = g.L.Places.updates c.args.log.now in
+    let val_ts = c.self.inside.val_ts in
+    let calls = g.E.Executed.known c.args.calls.now in
+    let todo : behind c.as_slice.result.now ≡ waiting val_ts updates =
+    ap behind c.as_slice.ensures.value ∙ c.in_ok-waiting.ensures.waiting in
+    let none : take_ready val_ts (waiting val_ts updates) ≡ None =
+    subst (λ (l : List (LogUpdate _)). take_ready val_ts l ≡ None) todo
+    (c.first_ready.ensures.none
+    (none-is c.first_ready.result c.is_none.result c.is_none.ensures c.if-is_none.true)) in
+    let p = progress_at c.self.inside.value val_ts calls in
+    subst (λ (v : Applied _). HasApplied m updates (progress v calls) p) c.self.view_is
+    (has-applied m updates p p (sym (blocked-idle m _ (waiting val_ts updates) p none)))
+
+pub returns-then-is_none-clause-settled : goal.returns-then-is_none-clause-settled
+returns-then-is_none-clause-settled g c =
+    let m = g.S.Service.meaning in
+    let updates = g.L.Places.updates c.args.log.now in
+    let val_ts = c.self.inside.val_ts in
+    let items = c.in_ok-waiting.waiting.items in
+    let todo : behind c.as_slice.result.now ≡ waiting val_ts updates =
+    ap behind c.as_slice.ensures.value ∙ c.in_ok-waiting.ensures.waiting in
+    let none : take_ready val_ts (waiting val_ts updates) ≡ None =
+    subst (λ (l : List (LogUpdate _)). take_ready val_ts l ≡ None) todo
+    (c.first_ready.ensures.none
+    (none-is c.first_ready.result c.is_none.result c.is_none.ensures c.if-is_none.true)) in
+    let p = progress (record { value = c.self.inside.value; val_ts = val_ts; memory = c.self.inside.memory })
+    (g.E.Executed.known c.args.calls.now) in
+    let left : AreLeft val_ts (behind items) (behind c.as_slice-then-is_none.result.now) =
+    subst (λ (l : List (Bor (LogUpdate _))). AreLeft val_ts (behind items) (behind l))
+    (sym c.as_slice-then-is_none.ensures.value) (left-all val_ts (behind items)) in
+    settled-after val_ts val_ts _ updates (behind items) (behind c.as_slice-then-is_none.result.now)
+    c.in_ok-memory.memory c.args.received.now c.in_ok-waiting.ensures.waiting (stamp_le-refl val_ts)
+    (none-ready-at m updates p p (sym (blocked-idle m _ (waiting val_ts updates) p none))) left
+    c.in_ok-memory.ensures.seen c.in_ok-memory.ensures.waits refl refl
+
+pub apply_all-requires : goal.apply_all-requires
+apply_all-requires g c =
+    let updates = g.L.Places.updates c.args.log.now in
+    AllLogged-along g.S.Op.Operation.kind_of _ _ (waiting c.self.inside.val_ts updates) _
+    c.in_ok-waiting.ensures.waiting (ap length c.in_ok-draft.ensures.val_ts)
+    (AllLogged-filter g.S.Op.Operation.kind_of _ _ updates c.requires.logged)
+
+pub of-requires-2-clause-in_order : goal.of-requires-2-clause-in_order
+of-requires-2-clause-in_order g c =
+    subst (λ (l : List (Bor (LogUpdate _))). AreInOrder (λ u. u.spot) (behind l)) (sym c.as_slice-2.ensures.value)
+    (c.in_ok-left.ensures.left.in_order c.in_ok-waiting.ensures.in_order)
+
+pub of-requires-2-clause-received : goal.of-requires-2-clause-received
+of-requires-2-clause-received g c =
+    subst (λ (l : List (Bor (LogUpdate _))). AllReceived c.args.received.now (behind l))
+    (sym c.as_slice-2.ensures.value)
+    (c.in_ok-left.ensures.left.received c.args.received.now
+    (waiting-received c.self.inside.val_ts c.args.received.now (g.L.Places.updates c.args.log.now) _
+    c.in_ok-waiting.ensures.waiting c.requires.all_received))
+
+pub returns-clause-applied : goal.returns-clause-applied
+returns-clause-applied g c =
+    let m = g.S.Service.meaning in
+    let updates = g.L.Places.updates c.args.log.now in
+    let before = c.args.self.now in
+    let after = c.apply_all.new.draft in
+    let items = c.in_ok-waiting.waiting.items in
+    let calls = g.E.Executed.known c.apply_all.new.calls in
+    let p = progress before (g.E.Executed.known c.args.calls.now) in
+    let q = progress_at after.value after.val_ts calls in
+    let stamp : c.self.inside.val_ts ≡ before.val_ts = ap (λ (v : Applied _). v.val_ts) c.self.view_is in
+    let todo : behind items ≡ waiting before.val_ts updates =
+    c.in_ok-waiting.ensures.waiting ∙ ap (λ (s : List ℕ). waiting s updates) stamp in
+    let is : q ≡ all_ready m updates p =
+    ready-at m updates (behind items) before c.in_ok-draft.draft.value c.in_ok-draft.draft.val_ts
+    (g.E.Executed.known c.args.calls.now) q todo c.in_ok-draft.ensures.value c.in_ok-draft.ensures.val_ts
+    c.in_ok-left.ensures.ok in
+    has-applied m updates p (progress c.put.new.self calls)
+    (ap (λ (v : Applied _). progress v calls) c.put.ensures.after ∙ is)
+
+pub returns-clause-settled : goal.returns-clause-settled
+returns-clause-settled g c =
+    let m = g.S.Service.meaning in
+    let updates = g.L.Places.updates c.args.log.now in
+    let before = c.args.self.now in
+    let after = c.apply_all.new.draft in
+    let items = c.in_ok-waiting.waiting.items in
+    let p = progress before (g.E.Executed.known c.args.calls.now) in
+    let q = progress_at after.value after.val_ts (g.E.Executed.known c.apply_all.new.calls) in
+    let stamp : c.self.inside.val_ts ≡ before.val_ts = ap (λ (v : Applied _). v.val_ts) c.self.view_is in
+    let todo : behind items ≡ waiting before.val_ts updates =
+    c.in_ok-waiting.ensures.waiting ∙ ap (λ (s : List ℕ). waiting s updates) stamp in
+    let is : q ≡ all_ready m updates p =
+    ready-at m updates (behind items) before c.in_ok-draft.draft.value c.in_ok-draft.draft.val_ts
+    (g.E.Executed.known c.args.calls.now) q todo c.in_ok-draft.ensures.value c.in_ok-draft.ensures.val_ts
+    c.in_ok-left.ensures.ok in
+    let left : AreLeft after.val_ts (behind items) (behind c.as_slice-2.result.now) =
+    subst (λ (l : List (Bor (LogUpdate _))). AreLeft after.val_ts (behind items) (behind l))
+    (sym c.as_slice-2.ensures.value) c.in_ok-left.ensures.left in
+    settled-after before.val_ts after.val_ts c.put.new.self updates (behind items) (behind c.as_slice-2.result.now)
+    c.in_ok-memory-2.memory c.args.received.now todo (ready-grows m updates p q is) (none-ready-at m updates p q is) left
+    c.in_ok-memory-2.ensures.seen c.in_ok-memory-2.ensures.waits
+    (ap (λ (v : Applied _). v.val_ts) c.put.ensures.after) (ap (λ (v : Applied _). v.memory) c.put.ensures.after)

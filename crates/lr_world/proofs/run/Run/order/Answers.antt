@@ -1,13 +1,10 @@
-use Rattle.std.proofs.Common.{◌≡◌, ◌<◌, ◌∙◌, Some, ap, length, lt-ltb, refl, set, subst, sym}
-use Rattle.std.specs.List.{slice_get}
-use Rattle.std.proofs.lemmas.Option.{slice_get_read}
-use Rattle.lr_base.specs.Replicas.{IsReplica}
+use Rattle.std.proofs.Common.{◌≡◌, ◌∙◌, ap, lt-ltb, subst, sym}
 use Rattle.lr_base.specs.declared.names.Actor.TheVariants.{Replica}
 use Rattle.lr_base.specs.declared.names.Config.{Config}
 use Rattle.lr_graph.specs.Runs.{Stepped}
 use Rattle.lr_world.proofs.Begun.{has-begun, ordered-task, posts-fitting, replica-begun, task-of}
-use Rattle.lr_world.proofs.Everywhere.{each-read, each-set}
 use Rattle.lr_world.proofs.Fitting.{fitting-begun}
+use Rattle.lr_world.proofs.Reading.{replica-put, replica-read}
 use Rattle.lr_world.proofs.RunLemmas.{map-ok}
 use Rattle.lr_world.specs.Outboxes.{opened}
 use Rattle.lr_world.specs.Parts.{IsTask, begun}
@@ -19,36 +16,22 @@ use Rattle.lr_world.proofs.run.Run.order.Goals as goal
 pub begin-requires : goal.begin-requires
 begin-requires g c =
     let it = c.args.self.now in
-    let r = c.index_mut-replica.result.now in
-    let within : c.args.me < it.replicas.len = rw it.each_replica c.requires.me in
-    let old : IsReplica it.config c.args.me r =
-    each-read it.replicas.items c.args.me r (IsReplica it.config) it.all_replicas it.replicas.len it.replicas.ok.0 within c.index_mut-replica.ensures.value in
-    let there : slice_get it.replicas.items c.args.me ≡ Some r =
-    slice_get_read it.replicas.items it.replicas.len c.args.me r it.replicas.ok.0 within c.index_mut-replica.ensures.value in
-    let task : IsTaskOf it.posted.items c.args.order c.task_of-task.result =
-    subst (λ ps. IsTaskOf ps c.args.order c.task_of-task.result) c.as_slice.ensures.value c.task_of-task.ensures in
-    let fits : IsTask g.S.Op.Operation.kind_of r.config c.task_of-task.result =
-    subst (λ (config : Config). IsTask g.S.Op.Operation.kind_of config c.task_of-task.result) (sym old.setting)
-    (task-of g.S.Op.Operation.kind_of it.config it.posted.items c.args.order c.task_of-task.result it.all_posted c.requires.order c.requires.within task) in
-    fits
+    let task = c.task_of-task.result in
+    let old = (replica-read it c.args.me _ c.requires.me c.index_mut-replica.ensures.value).0 in
+    let is : IsTaskOf it.posted.items c.args.order task =
+    subst (λ ps. IsTaskOf ps c.args.order task) c.as_slice.ensures.value c.task_of-task.ensures in
+    subst (λ (config : Config). IsTask g.S.Op.Operation.kind_of config task) (sym old.setting)
+    (task-of g.S.Op.Operation.kind_of it.config it.posted.items c.args.order task it.all_posted c.requires.order
+    c.requires.within is)
 
 pub invariant_of-self : goal.invariant_of-self
 invariant_of-self g c =
     let it = c.args.self.now in
-    let r = c.index_mut-replica.result.now in
-    let within : c.args.me < it.replicas.len = rw it.each_replica c.requires.me in
-    let old : IsReplica it.config c.args.me r =
-    each-read it.replicas.items c.args.me r (IsReplica it.config) it.all_replicas it.replicas.len it.replicas.ok.0 within c.index_mut-replica.ensures.value in
-    let there : slice_get it.replicas.items c.args.me ≡ Some r =
-    slice_get_read it.replicas.items it.replicas.len c.args.me r it.replicas.ok.0 within c.index_mut-replica.ensures.value in
-    let task : IsTaskOf it.posted.items c.args.order c.task_of-task.result =
-    subst (λ ps. IsTaskOf ps c.args.order c.task_of-task.result) c.as_slice.ensures.value c.task_of-task.ensures in
     record {
       valid = it.valid;
       each_replica = it.each_replica;
       all_replicas =
-          each-set it.replicas.items c.args.me c.begin.new.self (IsReplica it.config) it.all_replicas
-          (record { setting = c.begin.ensures.same.setting ∙ old.setting; number = c.begin.ensures.same.number ∙ old.number });
+          replica-put it c.args.me _ c.begin.new.self c.requires.me c.index_mut-replica.ensures.value c.begin.ensures.same;
       each_client = it.each_client;
       all_fronts = it.all_fronts;
       all_posted = it.all_posted;
@@ -57,20 +40,11 @@ invariant_of-self g c =
 pub invariant_of-self-2 : goal.invariant_of-self-2
 invariant_of-self-2 g c =
     let it = c.args.self.now in
-    let r = c.index_mut-replica.result.now in
-    let within : c.args.me < it.replicas.len = rw it.each_replica c.requires.me in
-    let old : IsReplica it.config c.args.me r =
-    each-read it.replicas.items c.args.me r (IsReplica it.config) it.all_replicas it.replicas.len it.replicas.ok.0 within c.index_mut-replica.ensures.value in
-    let there : slice_get it.replicas.items c.args.me ≡ Some r =
-    slice_get_read it.replicas.items it.replicas.len c.args.me r it.replicas.ok.0 within c.index_mut-replica.ensures.value in
-    let task : IsTaskOf it.posted.items c.args.order c.task_of-task.result =
-    subst (λ ps. IsTaskOf ps c.args.order c.task_of-task.result) c.as_slice.ensures.value c.task_of-task.ensures in
     record {
       valid = it.valid;
       each_replica = it.each_replica;
       all_replicas =
-          each-set it.replicas.items c.args.me c.begin.new.self (IsReplica it.config) it.all_replicas
-          (record { setting = c.begin.ensures.same.setting ∙ old.setting; number = c.begin.ensures.same.number ∙ old.number });
+          replica-put it c.args.me _ c.begin.new.self c.requires.me c.index_mut-replica.ensures.value c.begin.ensures.same;
       each_client = it.each_client;
       all_fronts = it.all_fronts;
       all_posted = it.all_posted;
@@ -80,65 +54,55 @@ pub send-requires-clause-posts : goal.send-requires-clause-posts
 send-requires-clause-posts g c =
     let it = c.args.self.now in
     let r = c.index_mut-replica.result.now in
-    let within : c.args.me < it.replicas.len = rw it.each_replica c.requires.me in
-    let old : IsReplica it.config c.args.me r =
-    each-read it.replicas.items c.args.me r (IsReplica it.config) it.all_replicas it.replicas.len it.replicas.ok.0 within c.index_mut-replica.ensures.value in
-    let there : slice_get it.replicas.items c.args.me ≡ Some r =
-    slice_get_read it.replicas.items it.replicas.len c.args.me r it.replicas.ok.0 within c.index_mut-replica.ensures.value in
-    let task : IsTaskOf it.posted.items c.args.order c.task_of-task.result =
-    subst (λ ps. IsTaskOf ps c.args.order c.task_of-task.result) c.as_slice.ensures.value c.task_of-task.ensures in
-    let fits : IsTask g.S.Op.Operation.kind_of r.config c.task_of-task.result =
-    subst (λ (config : Config). IsTask g.S.Op.Operation.kind_of config c.task_of-task.result) (sym old.setting)
-    (task-of g.S.Op.Operation.kind_of it.config it.posted.items c.args.order c.task_of-task.result it.all_posted c.requires.order c.requires.within task) in
-    let m = g.S.Service.meaning in
-    let end = begun m r c.task_of-task.result in
+    let task = c.task_of-task.result in
+    let old = (replica-read it c.args.me r c.requires.me c.index_mut-replica.ensures.value).0 in
+    let end = begun g.S.Service.meaning r task in
+    let is : IsTaskOf it.posted.items c.args.order task =
+    subst (λ ps. IsTaskOf ps c.args.order task) c.as_slice.ensures.value c.task_of-task.ensures in
+    let fits : IsTask g.S.Op.Operation.kind_of r.config task =
+    subst (λ (config : Config). IsTask g.S.Op.Operation.kind_of config task) (sym old.setting)
+    (task-of g.S.Op.Operation.kind_of it.config it.posted.items c.args.order task it.all_posted c.requires.order
+    c.requires.within is) in
     let sound : AllFitting g.S.Op.Operation.kind_of it.config end.acts =
     subst (λ (config : Config). AllFitting g.S.Op.Operation.kind_of config end.acts) old.setting
-    (fitting-begun g.S.Op.Operation.kind_of m r c.begin.new.self c.task_of-task.result c.keeps.ensures c.keeps-2.ensures c.begin.ensures.same.setting c.in_ok-point.ensures.did.state_is fits) in
-    posts-fitting g.S.Op.Operation.kind_of it.config (Replica c.args.me) c.len.result end.acts c.open.new.self c.begin.new.out c.open.ensures c.in_ok-point.ensures.did.acts_are
-    (lt-ltb c.args.me it.config.replicas c.requires.me) sound
+    (fitting-begun g.S.Op.Operation.kind_of g.S.Service.meaning r c.begin.new.self task c.keeps.ensures c.keeps-2.ensures
+    c.begin.ensures.same.setting c.in_ok-point.ensures.did.state_is fits) in
+    posts-fitting g.S.Op.Operation.kind_of it.config (Replica c.args.me) c.len.result end.acts c.open.new.self
+    c.begin.new.out c.open.ensures c.in_ok-point.ensures.did.acts_are (lt-ltb c.args.me it.config.replicas c.requires.me)
+    sound
 
 pub send-requires-clause-begun : goal.send-requires-clause-begun
 send-requires-clause-begun g c =
     let it = c.args.self.now in
     let r = c.index_mut-replica.result.now in
-    let within : c.args.me < it.replicas.len = rw it.each_replica c.requires.me in
-    let old : IsReplica it.config c.args.me r =
-    each-read it.replicas.items c.args.me r (IsReplica it.config) it.all_replicas it.replicas.len it.replicas.ok.0 within c.index_mut-replica.ensures.value in
-    let there : slice_get it.replicas.items c.args.me ≡ Some r =
-    slice_get_read it.replicas.items it.replicas.len c.args.me r it.replicas.ok.0 within c.index_mut-replica.ensures.value in
-    let task : IsTaskOf it.posted.items c.args.order c.task_of-task.result =
-    subst (λ ps. IsTaskOf ps c.args.order c.task_of-task.result) c.as_slice.ensures.value c.task_of-task.ensures in
-    (it.replicas.items, has-begun (run_of it) c.args.me r c.begin.new.self c.in_ok-point.point there c.in_ok-point.ensures.same c.in_ok-point.ensures.point)
+    let there = (replica-read it c.args.me r c.requires.me c.index_mut-replica.ensures.value).1 in
+    (it.replicas.items,
+    has-begun (run_of it) c.args.me r c.begin.new.self c.in_ok-point.point there c.in_ok-point.ensures.same
+    c.in_ok-point.ensures.point)
 
 pub returns-clause-made : goal.returns-clause-made
 returns-clause-made g c =
     let it = c.args.self.now in
     let r = c.index_mut-replica.result.now in
-    let within : c.args.me < it.replicas.len = rw it.each_replica c.requires.me in
-    let old : IsReplica it.config c.args.me r =
-    each-read it.replicas.items c.args.me r (IsReplica it.config) it.all_replicas it.replicas.len it.replicas.ok.0 within c.index_mut-replica.ensures.value in
-    let there : slice_get it.replicas.items c.args.me ≡ Some r =
-    slice_get_read it.replicas.items it.replicas.len c.args.me r it.replicas.ok.0 within c.index_mut-replica.ensures.value in
+    let m = g.S.Service.meaning in
+    let next = c.send.new.self in
+    let there = (replica-read it c.args.me r c.requires.me c.index_mut-replica.ensures.value).1 in
     let task : IsTaskOf it.posted.items c.args.order c.task_of-task.result =
     subst (λ ps. IsTaskOf ps c.args.order c.task_of-task.result) c.as_slice.ensures.value c.task_of-task.ensures in
-    let m = g.S.Service.meaning in
     map-ok c.send.result _ _
-    (λ pending sent. subst (λ (made : Stepped _ _). HasBegun it.config made (run_of it) (run_of c.send.new.self) (lines_of c.send.new.self) pending)
+    (λ pending sent. subst (λ (made : Stepped _ _). HasBegun it.config made (run_of it) (run_of next) (lines_of next) pending)
     (ordered-task m (run_of it) c.args.me r c.args.order c.task_of-task.result there c.requires.within task)
-    (replica-begun m it.config (run_of it) (run_of c.send.new.self) c.args.me r c.begin.new.self c.task_of-task.result c.in_ok-point.point c.open.new.self c.begin.new.out (lines_of c.send.new.self) pending
-    there (c.open.ensures ∙ ap (opened (Replica c.args.me)) (c.len.ensures ∙ it.posted.ok.0)) c.in_ok-point.ensures.did c.in_ok-point.ensures.same c.in_ok-point.ensures.point c.requires.me sent))
+    (replica-begun m it.config (run_of it) (run_of next) c.args.me r c.begin.new.self c.task_of-task.result
+    c.in_ok-point.point c.open.new.self c.begin.new.out (lines_of next) pending there
+    (c.open.ensures ∙ ap (opened (Replica c.args.me)) (c.len.ensures ∙ it.posted.ok.0)) c.in_ok-point.ensures.did
+    c.in_ok-point.ensures.same c.in_ok-point.ensures.point c.requires.me sent))
     c.send.ensures.ok
 
 pub returns-clause-err : goal.returns-clause-err
 returns-clause-err g c =
     let it = c.args.self.now in
     let r = c.index_mut-replica.result.now in
-    let within : c.args.me < it.replicas.len = rw it.each_replica c.requires.me in
-    let old : IsReplica it.config c.args.me r =
-    each-read it.replicas.items c.args.me r (IsReplica it.config) it.all_replicas it.replicas.len it.replicas.ok.0 within c.index_mut-replica.ensures.value in
-    let there : slice_get it.replicas.items c.args.me ≡ Some r =
-    slice_get_read it.replicas.items it.replicas.len c.args.me r it.replicas.ok.0 within c.index_mut-replica.ensures.value in
-    let task : IsTaskOf it.posted.items c.args.order c.task_of-task.result =
-    subst (λ ps. IsTaskOf ps c.args.order c.task_of-task.result) c.as_slice.ensures.value c.task_of-task.ensures in
-    c.send.ensures.err it.replicas.items (has-begun (run_of it) c.args.me r c.begin.new.self c.in_ok-point.point there c.in_ok-point.ensures.same c.in_ok-point.ensures.point)
+    let there = (replica-read it c.args.me r c.requires.me c.index_mut-replica.ensures.value).1 in
+    c.send.ensures.err it.replicas.items
+    (has-begun (run_of it) c.args.me r c.begin.new.self c.in_ok-point.point there c.in_ok-point.ensures.same
+    c.in_ok-point.ensures.point)

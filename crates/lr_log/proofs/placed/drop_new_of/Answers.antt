@@ -1,0 +1,11 @@
+use Rattle.std.proofs.Common.{filter, arith}
+use Rattle.std.specs.Prelude.{not}
+use Rattle.lr_base.specs.Rules.{is_new}
+use Rattle.lr_log.proofs.RowLemmas.{mapped-more}
+use Rattle.lr_log.proofs.placed.drop_new_of.Goals as goal
+
+pub loop-row-preserved : goal.loop-row-preserved
+loop-row-preserved g c =
+    mapped-more (λ row. filter (λ x. not (is_new c.args.rep_ts.now (g.T.AtSpot.spot_of x))) row) _
+    c.loop-row.row-items c.loop-row.row-index
+    c.row-item.result c.drop_new.new.self (omega arith) c.loop-row.invariant c.row-item.is c.drop_new.ensures

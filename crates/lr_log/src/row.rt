@@ -1,0 +1,148 @@
+//! The items of one place.
+ghost use Rattle.std.specs.Prelude.{◌≡◌, ◌≤◌, ◌++◌, [], not, filter, find, map, length, false, true, OnOk, OnErr, IfOk};
+ghost use Rattle.std.specs.List.Sorted.{IsPartitionPoint};
+ghost use Rattle.std.specs.Option.{option_copied};
+ghost use Rattle.lr_base.specs.Places.{AreInOrder};
+ghost use Rattle.lr_base.specs.Rules.{is_before as spot_is_before, is_new as is_new_at};
+ghost use Rattle.lr_log.specs.Items.{NoneAt};
+ghost use Rattle.lr_log.specs.Rows.{insert_item, same_spot};
+
+use crate::received::is_new;
+use crate::spotted::{AtSpot, Copied};
+use lr_base::{NoMemory, Rows, Spot, Stamp};
+use std::alloc::Global;
+use std::marker::Model;
+
+/// Items, seen as their list.
+#[derive(Drop)]
+pub struct Row<T> {
+    items: Vec<T>,
+}
+
+impl<T> Model for Row<T> {
+    ghost use Rattle.std.specs.Prelude.{List};
+    ghost use Rattle.std.specs.Coded.{coded_list};
+
+    ghost Value = { List T };
+
+    ghost coded = { coded_list T.code };
+
+    ghost view = { λ row. row.items.items };
+}
+
+impl<T: AtSpot> Row<T> {
+    /// No items. It takes memory when the first one comes.
+    pub fn new(alloc: Global) -> Self
+        ensures { result ≡ [] }
+    {
+        Row {
+            items: Vec::new(alloc),
+        }
+    }
+
+    /// The items, as a slice.
+    pub fn as_slice(&self) -> &[T]
+        ensures { result.now ≡ self.now }
+    {
+        self.items.as_slice()
+    }
+
+    /// Puts an item at its place in the order of spots.
+    pub fn insert(&mut self, item: T) -> Result<(), NoMemory>
+        requires in_order { AreInOrder T.spot_of self.old }
+        requires free { NoneAt T.spot_of (T.spot_of item) self.old }
+        ensures ok { OnOk result (self.new ≡ insert_item T.spot_of item self.old) }
+        ensures err { OnErr result (self.new ≡ self.old) }
+    {
+        let at = count_before(self.items.as_slice(), item.spot());
+        self.items.insert(at, item)?;
+        Ok(())
+    }
+
+    /// Takes out what stands at a spot.
+    pub fn remove(&mut self, spot: Spot)
+        ensures { self.new ≡ filter (λ x. not (same_spot (T.spot_of x) spot)) self.old }
+    {
+        self.items.retain(|item| item.spot() != spot);
+    }
+
+    /// Drops the items that are new where so many were received of each place.
+    pub fn drop_new(&mut self, rep_ts: &Stamp)
+        ensures { self.new ≡ filter (λ x. not (is_new_at rep_ts.now (T.spot_of x))) self.old }
+    {
+        self.items.retain(|item| !is_new(rep_ts, item.spot()));
+    }
+
+    /// Drops all items, and keeps their room.
+    pub fn clear(&mut self)
+        ensures { self.new ≡ [] }
+    {
+        self.items.clear();
+    }
+
+    /// What stands at a spot.
+    pub fn at(&self, spot: Spot) -> Option<&T>
+        requires { AreInOrder T.spot_of self.now }
+        ensures { option_copied result ≡ find (λ x. same_spot (T.spot_of x) spot) self.now }
+    {
+        let items = self.items.as_slice();
+        let at = count_before(items, spot);
+        if at == items.len() {
+            return None;
+        }
+        if items[at].spot() != spot {
+            return None;
+        }
+        Some(&items[at])
+    }
+
+    /// Adds the items' spots behind others.
+    pub fn list_spots(&self, spots: &mut Rows<Spot>) -> Result<(), NoMemory>
+        ensures { OnOk result (spots.new ≡ spots.old ++ map T.spot_of self.now) }
+    {
+        for item in self.as_slice() {
+            spots.push(item.spot())?;
+        }
+        Ok(())
+    }
+}
+
+impl<T: Copied> Row<T> {
+    /// A row equal to this one.
+    pub fn copy(&self, alloc: Global) -> Result<Self, NoMemory>
+        ensures { IfOk result (λ copied. copied ≡ self.now) }
+    {
+        let mut items = Vec::with_capacity(alloc, self.items.len())?;
+        for item in self.as_slice() {
+            items.push(item.copied()?)?;
+        }
+        Ok(Row { items })
+    }
+
+    /// Adds copies of the items behind others.
+    pub fn list_items(&self, items: &mut Rows<T>) -> Result<(), NoMemory>
+        ensures { OnOk result (items.new ≡ items.old ++ self.now) }
+    {
+        for item in self.as_slice() {
+            items.push(item.copied()?)?;
+        }
+        Ok(())
+    }
+}
+
+/// Whether a spot comes before another, by place and then by number.
+pub fn is_before(first: Spot, second: Spot) -> bool
+    ensures { result ≡ spot_is_before first second }
+{
+    first.place < second.place || first.place == second.place && first.number < second.number
+}
+
+// How many items stand before a spot.
+fn count_before<T: AtSpot>(items: &[T], spot: Spot) -> usize
+    requires { AreInOrder T.spot_of items.now }
+    ensures most { result ≤ length items.now }
+    ensures point { IsPartitionPoint (λ x. spot_is_before (T.spot_of x) spot ≡ true)
+        (λ x. spot_is_before (T.spot_of x) spot ≡ false) items.now result }
+{
+    items.partition_point(|item| is_before(item.spot(), spot))
+}
