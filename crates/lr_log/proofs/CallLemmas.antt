@@ -258,8 +258,8 @@ removed-entry entry entries all free =
 module _ {A : Type 0} (spot_of : A → Spot) (cid_of : A → Cid) where
   -- the index after an entry was inserted and taken out
   pub inserted-again : (entry : CallSpot) (rows : List (List A)) (items : List A) (index more again : List CallSpot)
-      → IsPlaced spot_of cid_of rows index → together rows ≡ items → NoneAt spot_of entry.spot items → more ≡
-      insert_entry entry index
+      → IsPlaced spot_of cid_of rows index → together rows ≡ items → NoneAt spot_of entry.spot items
+      → more ≡ insert_entry entry index
       → again ≡ filter (λ e. not (same_spot e.spot entry.spot)) more → again ≡ index
   inserted-again entry rows items index more again is view free put out =
       out ∙ ap (filter (λ e. not (same_spot e.spot entry.spot))) put

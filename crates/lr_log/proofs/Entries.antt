@@ -55,8 +55,8 @@ pub entry-trans : (a b c : CallSpot) → entry_before a b ≡ true → entry_bef
 entry-trans a b c one two = go (entry-holds a b one) (entry-holds b c two)
   where
     go : (cid_before a.cid b.cid ≡ true) ⊎ ((a.cid ≡ b.cid) × (is_before a.spot b.spot ≡ true))
-        → (cid_before b.cid c.cid ≡ true) ⊎ ((b.cid ≡ c.cid) × (is_before b.spot c.spot ≡ true)) → entry_before a c ≡
-        true
+        → (cid_before b.cid c.cid ≡ true) ⊎ ((b.cid ≡ c.cid) × (is_before b.spot c.spot ≡ true))
+        → entry_before a c ≡ true
     go (inl p) (inl q) = entry-shown a c (inl (before-trans (as_spot a.cid) (as_spot b.cid) (as_spot c.cid) p q))
     go (inl p) (inr q) = entry-shown a c (inl (subst (λ x. cid_before a.cid x ≡ true) q.0 p))
     go (inr p) (inl q) = entry-shown a c (inl (subst (λ x. cid_before x c.cid ≡ true) (sym p.0) q))

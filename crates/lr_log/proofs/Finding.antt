@@ -288,8 +288,8 @@ module _ {A : Type 0} (spot_of : A → Spot) (cid_of : A → Cid) where
       go true is rest =
           find-inserted_first (λ e. same_cid e.cid cid) entry_before (entry_of spot_of cid_of x)
           (index_of spot_of cid_of items) is
-          (each-entry spot_of cid_of (λ e. same_cid e.cid cid ≡ true → entry_before (entry_of spot_of cid_of x) e ≡
-          true) items
+          (each-entry spot_of cid_of (λ e. same_cid e.cid cid ≡ true
+          → entry_before (entry_of spot_of cid_of x) e ≡ true) items
           (each-map (λ y. is_before (spot_of x) (spot_of y) ≡ true) _ items
           (λ y first of_call. entry-shown (entry_of spot_of cid_of x) (entry_of spot_of cid_of y)
           (inr (cid-same (cid_of x) cid is ∙ sym (cid-same (cid_of y) cid of_call), first))) order.0))
@@ -330,8 +330,8 @@ module _ {A : Type 0} (spot_of : A → Spot) (cid_of : A → Cid) where
           past : (s : Bool) → same_spot (spot_of y) (spot_of x) ≡ false
               → find (λ z. same_spot (spot_of z) (spot_of x)) (items_at spot_of (spot_of x).place items) ≡ Some x
               → find (λ z. same_spot (spot_of z) (spot_of x))
-              (cond s (y ∷ items_at spot_of (spot_of x).place items) (items_at spot_of (spot_of x).place items)) ≡
-              Some x
+              (cond s (y ∷ items_at spot_of (spot_of x).place items) (items_at spot_of (spot_of x).place items))
+              ≡ Some x
           past true apart rest = rw apart rest
           past false apart rest = rest
 

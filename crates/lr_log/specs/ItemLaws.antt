@@ -189,8 +189,8 @@ module _ {Op : Type 0} where
   -- what is new of an ordered log
   pub IsOrdered-new : (rep_ts : List ℕ) (log : Items Op) → IsOrdered log
       → IsOrdered (items_of (new_updates rep_ts log.updates) (new_acks rep_ts log.acks))
-  IsOrdered-new rep_ts log ordered = IsOrdered-filter (λ u. is_new rep_ts u.spot) (λ a. is_new rep_ts a.spot) log
-      ordered
+  IsOrdered-new rep_ts log ordered =
+      IsOrdered-filter (λ u. is_new rep_ts u.spot) (λ a. is_new rep_ts a.spot) log ordered
 
   -- a spot that is new where all of a log was received is free in the log
   pub IsFree-new : (rep_ts : List ℕ) (spot : Spot) (log : Items Op) → AllReceived rep_ts log.updates

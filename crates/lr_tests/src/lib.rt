@@ -4,4 +4,8 @@
 #[cfg(test)]
 mod log;
 #[cfg(test)]
+mod log_model;
+#[cfg(test)]
+mod taking;
+#[cfg(test)]
 mod value;
