@@ -85,7 +85,8 @@ module _ {A : Type 0} where
   by-recursion P (x ∷ xs) all = (all 0 x refl, by-recursion P xs (λ k. all (suc k)))
 
   -- two facts of each element
-  pub both : (P Q R : A → Type 0) (xs : List A) → ((x : A) → P x → Q x → R x) → AllByRecursion P xs → AllByRecursion Q xs
+  pub both : (P Q R : A → Type 0) (xs : List A) → ((x : A) → P x → Q x → R x) → AllByRecursion P xs
+      → AllByRecursion Q xs
       → AllByRecursion R xs
   both P Q R [] into first second = tt
   both P Q R (x ∷ xs) into first second =
@@ -152,7 +153,8 @@ among-past place s (t ∷ spots) spot own other behind is =
     go (λ at. among-past place s spots spot own other behind.1 at) (t.place == spot.place) refl
     (t.number == spot.number) refl is
   where
-    go : (is_among spots spot ≡ true → s.number < spot.number) → (b : Bool) → (t.place == spot.place) ≡ b → (d : Bool) → (t.number == spot.number) ≡ d
+    go : (is_among spots spot ≡ true → s.number < spot.number) → (b : Bool) → (t.place == spot.place) ≡ b → (d : Bool)
+        → (t.number == spot.number) ≡ d
         → ((b && d) || is_among spots spot) ≡ true → s.number < spot.number
     go later true first true second at =
         let same : t.place ≡ spot.place = eqb-true t.place spot.place first in
@@ -166,9 +168,11 @@ among-past place s (t ∷ spots) spot own other behind is =
 listed : (seen : Stamp) (waits : List Spot) → AllByRecursion (λ s. is_new seen s ≡ false) waits → (spot : Spot)
     → is_among waits spot ≡ true → is_new seen spot ≡ false
 listed seen [] each spot is = absurd (true≢false (sym is))
-listed seen (t ∷ waits) each spot is = go (λ at. listed seen waits each.1 spot at) (t.place == spot.place) refl (t.number == spot.number) refl is
+listed seen (t ∷ waits) each spot is =
+    go (λ at. listed seen waits each.1 spot at) (t.place == spot.place) refl (t.number == spot.number) refl is
   where
-    go : (is_among waits spot ≡ true → is_new seen spot ≡ false) → (b : Bool) → (t.place == spot.place) ≡ b → (d : Bool) → (t.number == spot.number) ≡ d
+    go : (is_among waits spot ≡ true → is_new seen spot ≡ false) → (b : Bool) → (t.place == spot.place) ≡ b
+        → (d : Bool) → (t.number == spot.number) ≡ d
         → ((b && d) || is_among waits spot) ≡ true → is_new seen spot ≡ false
     go later true first true second at =
         let same : t.place ≡ spot.place = eqb-true t.place spot.place first in
@@ -329,7 +333,8 @@ module _ {Op : Type 0} (place : ℕ) where
           go false first false second false covered = first ∙ sym second
           go true first false second false covered =
               let old : is_new memory.seen u.spot ≡ false =
-              listed memory.seen memory.waits (by-recursion (λ s. is_new memory.seen s ≡ false) memory.waits seen.seen) u.spot
+              listed memory.seen memory.waits
+              (by-recursion (λ s. is_new memory.seen s ≡ false) memory.waits seen.seen) u.spot
               first in
               let old' : nat_lt (part memory.seen place) u.spot.number ≡ false = rw own at old in
               let low : u.spot.number ≤ part memory.seen place =

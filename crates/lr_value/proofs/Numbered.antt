@@ -1,6 +1,7 @@
 -- Updates in the order of their numbers, and the spots of those that wait.
 use Rattle.std.proofs.Common.{◌≡◌, ◌<◌, ◌≤◌, ℕ, zero, suc, Bool, true, false, not, List, [], ◌∷◌, length, get_or, map}
-use Rattle.std.proofs.Common.{refl, sym, ap, ◌∙◌, Some, None, arith, subst, ltb-true, ltb-false, leb-true, leb-false, eq-eqb, ne_eqb, ◌&&◌}
+use Rattle.std.proofs.Common.{refl, sym, ap, ◌∙◌, Some, None, arith, subst, ltb-true, ltb-false, leb-true, leb-false}
+use Rattle.std.proofs.Common.{eq-eqb, ne_eqb, ◌&&◌}
 use Rattle.std.proofs.Common.{◌+◌, ◌++◌, add-one, eqb-true, lt-ltb}
 use Rattle.std.specs.Prelude.{◌==◌, filter, nat_le, nat_lt, slice_get}
 use Rattle.std.specs.List.{AllByRecursion}

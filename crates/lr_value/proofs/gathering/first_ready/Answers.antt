@@ -8,18 +8,22 @@ use Rattle.lr_value.proofs.gathering.first_ready.Goals as goal
 pub le-requires : goal.le-requires
 le-requires g c =
     rw (← c.index-waiting-at.is)
-    (c.requires c.loop-at.at c.index-waiting-at.result.now (behind-read c.args.waiting.now c.loop-at.at c.index-waiting-at.result (omega arith) c.index-waiting-at.is)).prev
+    (c.requires c.loop-at.at c.index-waiting-at.result.now
+    (behind-read c.args.waiting.now c.loop-at.at c.index-waiting-at.result (omega arith)
+    c.index-waiting-at.is)).prev
 
 pub returns-then-le-clause-first : goal.returns-then-le-clause-first
 returns-then-le-clause-first g c =
-    let ready : stamp_le c.index-waiting-at.result.now.prev c.args.val_ts.now ≡ true = rw c.index-waiting-at.is (sym c.le.ensures ∙ c.if-le.true) in
+    let ready : stamp_le c.index-waiting-at.result.now.prev c.args.val_ts.now ≡ true =
+    rw c.index-waiting-at.is (sym c.le.ensures ∙ c.if-le.true) in
     TakesAt-first c.args.val_ts.now _ c.loop-at.at c.index-waiting-at.result.now
     (behind-read c.args.waiting.now c.loop-at.at c.index-waiting-at.result (omega arith) c.index-waiting-at.is)
     ready c.loop-at.invariant
 
 pub loop-at-preserved : goal.loop-at-preserved
 loop-at-preserved g c =
-    let blocks : stamp_le c.index-waiting-at.result.now.prev c.args.val_ts.now ≡ false = rw c.index-waiting-at.is (sym c.le.ensures ∙ c.if-le.false) in
+    let blocks : stamp_le c.index-waiting-at.result.now.prev c.args.val_ts.now ≡ false =
+    rw c.index-waiting-at.is (sym c.le.ensures ∙ c.if-le.false) in
     each-more (λ u. stamp_le u.prev c.args.val_ts.now ≡ false) _ c.loop-at.at c.index-waiting-at.result.now
     (behind-read c.args.waiting.now c.loop-at.at c.index-waiting-at.result (omega arith) c.index-waiting-at.is)
     blocks c.loop-at.invariant

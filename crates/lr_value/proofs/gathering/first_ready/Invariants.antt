@@ -6,4 +6,5 @@ use Rattle.lr_value.proofs.gathering.first_ready.Given as goal
 
 -- none before it may be applied
 abbrev pub invariant-loop-at : goal.invariant-loop-at
-invariant-loop-at g l = (k : ℕ) (u : _) → k < l.at → slice_get (behind l.waiting) k ≡ Some u → stamp_le u.prev l.val_ts ≡ false
+invariant-loop-at g l = (k : ℕ) (u : _) → k < l.at → slice_get (behind l.waiting) k ≡ Some u
+    → stamp_le u.prev l.val_ts ≡ false

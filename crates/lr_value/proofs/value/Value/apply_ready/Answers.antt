@@ -1,4 +1,5 @@
-use Rattle.std.proofs.Common.{◌≡◌, ◌∙◌, Bool, true, true≢false, Option, Some, None, length, ap, sym, refl, subst, List, ℕ, not}
+use Rattle.std.proofs.Common.{◌≡◌, ◌∙◌, Bool, true, true≢false, Option, Some, None, length, ap, sym, refl, subst}
+use Rattle.std.proofs.Common.{List, ℕ, not}
 use Rattle.std.specs.Prelude.{IsNone, is_some}
 use Rattle.std.specs.Borrow.{Bor}
 use Rattle.lr_base.specs.declared.messages.LogUpdate.{LogUpdate}
@@ -170,6 +171,7 @@ returns-clause-settled g c =
     subst (λ (l : List (Bor (LogUpdate _))). AreLeft after.val_ts (behind items) (behind l))
     (sym c.as_slice-2.ensures.value) c.in_ok-left.ensures.left in
     settled-after before.val_ts after.val_ts c.put.new.self updates (behind items) (behind c.as_slice-2.result.now)
-    c.in_ok-memory-2.memory c.args.received.now todo (ready-grows m updates p q is) (none-ready-at m updates p q is) left
+    c.in_ok-memory-2.memory c.args.received.now todo (ready-grows m updates p q is) (none-ready-at m updates p q is)
+    left
     c.in_ok-memory-2.ensures.seen c.in_ok-memory-2.ensures.waits
     (ap (λ (v : Applied _). v.val_ts) c.put.ensures.after) (ap (λ (v : Applied _). v.memory) c.put.ensures.after)
