@@ -32,8 +32,8 @@ pub record StandInOrder {Op : Type 0} (updates : List (LogUpdate Op)) (acks : Li
   pub acks_in_order : EachBefore (λ a. a.spot) acks
   pub apart : (j k : ℕ) → ForSome (slice_get updates j) (λ u. ForSome (slice_get acks k) (λ a. a.spot ≢ u.spot))
 
--- gossip of a run whose stamps have these many parts: each update of it can be applied, by its own stamp each item of it
--- was received, and its items stand in order, each at a spot of its own
+-- gossip of a run whose stamps have these many parts: each update of it can be applied, by its own stamp each item of
+-- it was received, and its items stand in order, each at a spot of its own
 pub record IsGossip {Op : Type 0} (kind_of : Op → Kind) (parts : ℕ) (gossip : Gossip Op) : Type 0 where
   pub rep_parts : length gossip.rep_ts ≡ parts
   pub logged : AllLogged kind_of parts gossip.updates

@@ -119,8 +119,8 @@ impl<S: Service> Value<S> {
         ensures older { IfOk result
             (IsOlderOf (progress self.old (E.known calls.old)) (progress self.new (E.known calls.new))) }
         // what stays, also where memory ends
-        ensures err { OnErr result (self.new ≡ self.old) }
-        ensures goes_on { GoesOn (progress self.old (E.known calls.old)) (progress self.new (E.known calls.new)) }
+        ensures stays { OnErr result (self.new ≡ self.old)
+            × GoesOn (progress self.old (E.known calls.old)) (progress self.new (E.known calls.new)) }
     {
         if self.has_seen(received) {
             return Ok(None);

@@ -22,38 +22,38 @@ apply_ready-requires g c =
 -- ---- where there is no memory
 
 pub invariant_of-self-clause-val_parts : goal.invariant_of-self-clause-val_parts
-invariant_of-self-clause-val_parts g c = c.apply_ready.ensures.goes_on.parts ∙ c.args.self.now.val_parts
+invariant_of-self-clause-val_parts g c = c.apply_ready.ensures.stays.1.parts ∙ c.args.self.now.val_parts
 
 pub invariant_of-self-clause-known : goal.invariant_of-self-clause-known
 invariant_of-self-clause-known g c =
     let it = c.args.self.now in
     AllKnown-take _ c.len-count.result c.apply_ready.new.calls c.cut.new.self c.cut.ensures
     (subst (λ n. AllKnown n c.apply_ready.new.calls) it.val_parts
-    (c.apply_ready.ensures.goes_on.known (subst (λ n. AllKnown n it.calls) (sym it.val_parts) it.known)))
+    (c.apply_ready.ensures.stays.1.known (subst (λ n. AllKnown n it.calls) (sym it.val_parts) it.known)))
 
 pub invariant_of-self-clause-remembers : goal.invariant_of-self-clause-remembers
 invariant_of-self-clause-remembers g c =
-    let it = c.args.self.now in subst (λ v. Remembers v it.log.updates) (sym c.in_default.ensures.err) it.remembers
+    let it = c.args.self.now in subst (λ v. Remembers v it.log.updates) (sym c.in_default.ensures.stays.0) it.remembers
 
 pub invariant_of-self-clause-seen : goal.invariant_of-self-clause-seen
 invariant_of-self-clause-seen g c =
-    let it = c.args.self.now in subst (λ v. HasSeen it.rep_ts v.memory) (sym c.in_default.ensures.err) it.seen
+    let it = c.args.self.now in subst (λ v. HasSeen it.rep_ts v.memory) (sym c.in_default.ensures.stays.0) it.seen
 
 pub invariant_of-self-clause-waits : goal.invariant_of-self-clause-waits
 invariant_of-self-clause-waits g c known =
     let it = c.args.self.now in
-    subst (λ v. NoneApplied v.val_ts it.held.items) (sym c.in_default.ensures.err) (it.waits known)
+    subst (λ v. NoneApplied v.val_ts it.held.items) (sym c.in_default.ensures.stays.0) (it.waits known)
 
 -- ---- where something is applied
 
 pub invariant_of-self-in-Some-clause-val_parts : goal.invariant_of-self-in-Some-clause-val_parts
-invariant_of-self-in-Some-clause-val_parts g c = c.apply_ready.ensures.goes_on.parts ∙ c.args.self.now.val_parts
+invariant_of-self-in-Some-clause-val_parts g c = c.apply_ready.ensures.stays.1.parts ∙ c.args.self.now.val_parts
 
 pub invariant_of-self-in-Some-clause-known : goal.invariant_of-self-in-Some-clause-known
 invariant_of-self-in-Some-clause-known g c =
     let it = c.args.self.now in
     subst (λ n. AllKnown n c.apply_ready.new.calls) it.val_parts
-    (c.apply_ready.ensures.goes_on.known (subst (λ n. AllKnown n it.calls) (sym it.val_parts) it.known))
+    (c.apply_ready.ensures.stays.1.known (subst (λ n. AllKnown n it.calls) (sym it.val_parts) it.known))
 
 pub invariant_of-self-in-Some-clause-remembers : goal.invariant_of-self-in-Some-clause-remembers
 invariant_of-self-in-Some-clause-remembers g c = c.in-Ok.ensures.settled.remembers
@@ -66,13 +66,13 @@ invariant_of-self-in-Some-clause-seen g c =
 -- ---- where nothing is
 
 pub invariant_of-self-in_default-older-clause-val_parts : goal.invariant_of-self-in_default-older-clause-val_parts
-invariant_of-self-in_default-older-clause-val_parts g c = c.apply_ready.ensures.goes_on.parts ∙ c.args.self.now.val_parts
+invariant_of-self-in_default-older-clause-val_parts g c = c.apply_ready.ensures.stays.1.parts ∙ c.args.self.now.val_parts
 
 pub invariant_of-self-in_default-older-clause-known : goal.invariant_of-self-in_default-older-clause-known
 invariant_of-self-in_default-older-clause-known g c =
     let it = c.args.self.now in
     subst (λ n. AllKnown n c.apply_ready.new.calls) it.val_parts
-    (c.apply_ready.ensures.goes_on.known (subst (λ n. AllKnown n it.calls) (sym it.val_parts) it.known))
+    (c.apply_ready.ensures.stays.1.known (subst (λ n. AllKnown n it.calls) (sym it.val_parts) it.known))
 
 pub invariant_of-self-in_default-older-clause-remembers : goal.invariant_of-self-in_default-older-clause-remembers
 invariant_of-self-in_default-older-clause-remembers g c = c.in-Ok.ensures.settled.remembers
