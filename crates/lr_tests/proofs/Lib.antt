@@ -1,2 +1,3 @@
-mod Lists
 mod Free
+mod Lists
+mod Places

@@ -1,21 +1,34 @@
 //! The calls of a value, with states worked out by hand.
 ghost use Rattle.std.specs.Prelude.{◌≡◌, ◌-◌, [], ◌∷◌, ◌++◌, length, take, None, find, is_some, IfOk, OnOk, OnErr};
 ghost use Rattle.std.specs.Option.{option_copied};
-ghost use Rattle.lr_base.specs.Logged.{AllLogged, IsLogged};
+ghost use Rattle.lr_base.specs.Logged.{AllLogged, AllReceived, IsLogged};
+ghost use Rattle.lr_base.specs.Places.{AreInOrder, items_at};
 ghost use Rattle.lr_base.specs.Rules.{same_cid};
+ghost use Rattle.lr_tests.specs.Sample.{AreSample};
 
 use lr_base::lr_service::{Kind, Operation, Service};
-use lr_base::{Cid, Executed, Known, LogUpdate, NoMemory, Spot, Stamp, Text};
-use lr_value::Value;
+use lr_base::{Cid, Executed, Known, LogUpdate, NoMemory, Places, Spot, Stamp, Text};
+use lr_value::{Older, Value};
 use std::alloc::Global;
+use std::marker::Model;
 use std::process::Abort;
 use std::test::Fail;
 use svc_tally::{Tally, TallyOp};
 
-// A table that looks through all its calls.
+// A table that looks through all its calls, and has room for so many.
 #[derive(Drop)]
 struct Calls {
     entries: Vec<(Cid, Known)>,
+    room: usize,
+}
+
+impl Calls {
+    fn new(alloc: Global, room: usize) -> Self {
+        Calls {
+            entries: Vec::new(alloc),
+            room,
+        }
+    }
 }
 
 impl Executed for Calls {
@@ -26,6 +39,9 @@ impl Executed for Calls {
     }
 
     fn enter(&mut self, cid: Cid, entry: Known) -> Result<(), NoMemory> {
+        if self.entries.len() >= self.room {
+            return Err(NoMemory);
+        }
         self.entries.push((cid, entry))?;
         Ok(())
     }
@@ -52,34 +68,187 @@ fn stamp(rt: &impl Abort, parts: [u64; 4]) -> Stamp {
     stamp
 }
 
-// Updates that can be applied where there are three replicas.
+// Updates of one of three replicas, in the order of their numbers, which are at most 1000.
 #[derive(Drop)]
-struct Updates {
+struct OfPlace {
+    place: u8,
+    last: u64,
     items: Vec<LogUpdate<TallyOp>>,
-    ghost logged: { AllLogged ⟦<TallyOp as Operation>⟧.kind_of 4 items.items },
 }
 
-impl Updates {
+impl Model for OfPlace {
+    ghost use Rattle.std.specs.Prelude.{ℕ, List};
+    ghost use Rattle.lr_base.specs.declared.messages.LogUpdate.{LogUpdate};
+    ghost use Rattle.svc_tally.specs.declared.op.TallyOp.{TallyOp};
+    ghost use Rattle.lr_tests.specs.Sample.{AreSample};
+
+    ghost Value = { ℕ × List (LogUpdate TallyOp) };
+
+    ghost view = { λ it. (it.place, it.items.items) };
+
+    ghost invariant = { λ it. AreSample it.place it.last it.items.items };
+}
+
+impl OfPlace {
+    fn new(alloc: Global, place: u8) -> Self
+        ensures { result ≡ (place, []) }
+    {
+        OfPlace {
+            place,
+            last: 0,
+            items: Vec::new(alloc),
+        }
+    }
+
     fn as_slice(&self) -> &[LogUpdate<TallyOp>]
-        ensures { AllLogged ⟦<TallyOp as Operation>⟧.kind_of 4 result.now }
+        ensures all { result.now ≡ self.now.1 }
+        ensures sample { AreSample self.now.0 1000 self.now.1 }
     {
         self.items.as_slice()
     }
 
-    fn push(&mut self, update: LogUpdate<TallyOp>) -> Result<(), NoMemory>
+    fn push(&mut self, rt: &impl Abort, update: LogUpdate<TallyOp>) -> Result<(), NoMemory>
         requires { IsLogged ⟦<TallyOp as Operation>⟧.kind_of 4 update }
+        ensures { self.new.0 ≡ self.old.0 }
     {
+        let number = update.spot.number;
+        assert!(rt; update.spot.place == self.place);
+        assert!(rt; self.last < number);
+        assert!(rt; number <= 1000);
         self.items.push(update)?;
+        self.last = number;
         Ok(())
     }
 }
 
-// Applies what is ready of these.
-fn apply(value: &mut Value<Tally>, updates: &Updates, calls: &mut Calls) -> Result<(), NoMemory>
+// Updates that can be applied where there are three replicas.
+#[derive(Drop)]
+struct Updates {
+    zero: OfPlace,
+    one: OfPlace,
+    two: OfPlace,
+    ghost zero_is: { zero.0 ≡ 0 },
+    ghost one_is: { one.0 ≡ 1 },
+    ghost two_is: { two.0 ≡ 2 },
+}
+
+impl Updates {
+    fn new(alloc: Global) -> Self {
+        Updates {
+            zero: OfPlace::new(alloc, 0),
+            one: OfPlace::new(alloc, 1),
+            two: OfPlace::new(alloc, 2),
+        }
+    }
+
+    fn push(&mut self, rt: &impl Abort, update: LogUpdate<TallyOp>) -> Result<(), NoMemory>
+        requires { IsLogged ⟦<TallyOp as Operation>⟧.kind_of 4 update }
+    {
+        match update.spot.place {
+            0 => self.zero.push(rt, update),
+            1 => self.one.push(rt, update),
+            _ => self.two.push(rt, update),
+        }
+    }
+}
+
+impl Places<TallyOp> for Updates {
+    ghost updates = { λ it. it.zero.1 ++ (it.one.1 ++ it.two.1) };
+
+    fn updates_of(&self, place: u8) -> &[LogUpdate<TallyOp>] {
+        let zero = self.zero.as_slice();
+        let one = self.one.as_slice();
+        let two = self.two.as_slice();
+        match place {
+            0 => zero,
+            1 => one,
+            2 => two,
+            _ => &[],
+        }
+    }
+}
+
+// The stamp of what was received.
+fn received(updates: &Updates) -> Stamp
+    ensures logged { AllLogged ⟦<TallyOp as Operation>⟧.kind_of 4
+        (updates.now.zero.1 ++ (updates.now.one.1 ++ updates.now.two.1)) }
+    ensures received { AllReceived result (updates.now.zero.1 ++ (updates.now.one.1 ++ updates.now.two.1)) }
+    ensures parts { length result ≡ 4 }
+{
+    let _zero = updates.zero.as_slice();
+    let _one = updates.one.as_slice();
+    let _two = updates.two.as_slice();
+    let mut received = Stamp::zero(4);
+    received.set_part(0, 1000);
+    received.set_part(1, 1000);
+    received.set_part(2, 1000);
+    received.set_part(3, 1000);
+    received
+}
+
+// Applies what is ready of these, as if it looked for the first time.
+fn apply(
+    value: &mut Value<Tally>,
+    updates: &Updates,
+    calls: &mut Calls,
+) -> Result<Option<Older<Tally>>, NoMemory>
     requires { length value.old.val_ts ≡ 4 }
     ensures { length value.new.val_ts ≡ 4 }
 {
-    value.apply_ready(updates.as_slice(), calls)
+    let received = received(updates);
+    value.forget();
+    value.apply_ready(updates, &received, calls)
+}
+
+// Whether something was applied. The older value is kept.
+fn apply_and_keep(
+    value: &mut Value<Tally>,
+    updates: &Updates,
+    calls: &mut Calls,
+) -> Result<bool, NoMemory>
+    requires { length value.old.val_ts ≡ 4 }
+    ensures { length value.new.val_ts ≡ 4 }
+{
+    let received = received(updates);
+    value.forget();
+    let Some(older) = value.apply_ready(updates, &received, calls)? else {
+        return Ok(false);
+    };
+    value.keep(older);
+    Ok(true)
+}
+
+// Whether something was applied. The older value is put back.
+fn apply_and_put_back(
+    value: &mut Value<Tally>,
+    updates: &Updates,
+    calls: &mut Calls,
+) -> Result<bool, NoMemory>
+    requires { length value.old.val_ts ≡ 4 }
+    ensures { length value.new.val_ts ≡ 4 }
+{
+    let received = received(updates);
+    value.forget();
+    let Some(older) = value.apply_ready(updates, &received, calls)? else {
+        return Ok(false);
+    };
+    value.put_back(older);
+    Ok(true)
+}
+
+// What the second of two applyings of the same answers.
+fn apply_twice(
+    value: &mut Value<Tally>,
+    updates: &Updates,
+    calls: &mut Calls,
+) -> Result<Option<Older<Tally>>, NoMemory>
+    requires { length value.old.val_ts ≡ 4 }
+    ensures { length value.new.val_ts ≡ 4 }
+{
+    let received = received(updates);
+    value.forget();
+    value.apply_ready(updates, &received, calls)?;
+    value.apply_ready(updates, &received, calls)
 }
 
 // An update of the client's call of this number, with its causes.
@@ -127,9 +296,7 @@ fn read_x(
 
 // Two calls, of which the first waits for the second, the second's again, and one that waits for ever.
 fn some_updates(rt: &impl Abort, alloc: Global) -> Result<Updates, Fail> {
-    let mut updates = Updates {
-        items: Vec::new(alloc),
-    };
+    let mut updates = Updates::new(alloc);
     for (place, number, seq, prev, op) in [
         (0, 1, 1, [0, 1, 0, 0], "add x 3"),
         (1, 1, 2, [0, 0, 0, 0], "add x 4"),
@@ -137,7 +304,7 @@ fn some_updates(rt: &impl Abort, alloc: Global) -> Result<Updates, Fail> {
         (2, 1, 3, [7, 0, 0, 0], "add x 5"),
     ] {
         let spot = Spot { place, number };
-        updates.push(update(rt, alloc, spot, seq, prev, op)?)?;
+        updates.push(rt, update(rt, alloc, spot, seq, prev, op)?)?;
     }
     Ok(updates)
 }
@@ -154,9 +321,7 @@ fn parts_of(stamp: &Stamp) -> [u64; 4] {
 #[test]
 fn what_is_ready_is_applied_once(rt: HostRuntime) -> Result<(), Fail> {
     let updates = some_updates(&rt, rt.alloc())?;
-    let mut calls = Calls {
-        entries: Vec::new(rt.alloc()),
-    };
+    let mut calls = Calls::new(rt.alloc(), 1000);
     let mut value = Value::<Tally>::new(rt.alloc(), 4)?;
     assert!(rt; value.val_ts().parts() == 4);
     apply(&mut value, &updates, &mut calls)?;
@@ -181,9 +346,7 @@ fn what_is_ready_is_applied_once(rt: HostRuntime) -> Result<(), Fail> {
 #[test]
 fn what_was_applied_stays_so(rt: HostRuntime) -> Result<(), Fail> {
     let updates = some_updates(&rt, rt.alloc())?;
-    let mut calls = Calls {
-        entries: Vec::new(rt.alloc()),
-    };
+    let mut calls = Calls::new(rt.alloc(), 1000);
     let start = Tally::start(rt.alloc())?;
     let mut value = Value::from_parts(rt.alloc(), start, stamp(&rt, [1, 1, 0, 0]));
     assert!(rt; value.val_ts().parts() == 4);
@@ -197,9 +360,7 @@ fn what_was_applied_stays_so(rt: HostRuntime) -> Result<(), Fail> {
 #[test]
 fn answers_wait_for_what_a_label_names(rt: HostRuntime) -> Result<(), Fail> {
     let updates = some_updates(&rt, rt.alloc())?;
-    let mut calls = Calls {
-        entries: Vec::new(rt.alloc()),
-    };
+    let mut calls = Calls::new(rt.alloc(), 1000);
     let mut value = Value::<Tally>::new(rt.alloc(), 4)?;
     assert!(rt; value.val_ts().parts() == 4);
     let before = value.copy()?;
@@ -222,4 +383,180 @@ fn answers_wait_for_what_a_label_names(rt: HostRuntime) -> Result<(), Fail> {
         }
     }
     Ok(())
+}
+
+// Updates that each wait for the one before, where the next one stands at the end of what still waits: the second
+// replica's wait for one another, and the first's, from the last to the first, for the second's.
+fn chain(rt: &impl Abort, alloc: Global) -> Result<Updates, Fail> {
+    let mut updates = Updates::new(alloc);
+    for k in 1..151 {
+        let spot = Spot {
+            place: 0,
+            number: k,
+        };
+        updates.push(
+            rt,
+            update(rt, alloc, spot, k, [0, 151 - k, 0, 0], "add x 1")?,
+        )?;
+    }
+    for k in 1..151 {
+        let spot = Spot {
+            place: 1,
+            number: k,
+        };
+        updates.push(
+            rt,
+            update(rt, alloc, spot, 150 + k, [0, k - 1, 0, 0], "add x 1")?,
+        )?;
+    }
+    Ok(updates)
+}
+
+// Many updates of the second replica that wait for one of the first, which is there or not.
+fn many(rt: &impl Abort, alloc: Global, is_there: bool) -> Result<Updates, Fail> {
+    let mut updates = Updates::new(alloc);
+    if is_there {
+        let spot = Spot {
+            place: 0,
+            number: 1,
+        };
+        updates.push(rt, update(rt, alloc, spot, 200, [0; 4], "add x 5")?)?;
+    }
+    for k in 1..101 {
+        let spot = Spot {
+            place: 1,
+            number: k,
+        };
+        updates.push(rt, update(rt, alloc, spot, k, [1, 0, 0, 0], "add x 1")?)?;
+    }
+    Ok(updates)
+}
+
+// A value to which nothing was applied yet, and a table with room for so many calls.
+#[derive(Drop)]
+struct Bench {
+    value: Value<Tally>,
+    calls: Calls,
+    ghost parts: { length value.val_ts ≡ 4 },
+}
+
+impl Bench {
+    fn new(rt: &impl Abort, alloc: Global, room: usize) -> Result<Self, Fail> {
+        let value = Value::<Tally>::new(alloc, 4)?;
+        assert!(rt; value.val_ts().parts() == 4);
+        Ok(Bench {
+            value,
+            calls: Calls::new(alloc, room),
+        })
+    }
+
+    // Whether something was applied. The older value is kept.
+    fn apply(&mut self, updates: &Updates) -> Result<bool, NoMemory> {
+        apply_and_keep(&mut self.value, updates, &mut self.calls)
+    }
+
+    // Whether something is applied by the second of two applyings of the same.
+    fn apply_twice(&mut self, updates: &Updates) -> Result<bool, NoMemory> {
+        let last = apply_twice(&mut self.value, updates, &mut self.calls)?;
+        Ok(last.is_some())
+    }
+
+    // Applies, and puts the older value back.
+    fn apply_and_put_back(&mut self, updates: &Updates) -> Result<bool, NoMemory> {
+        apply_and_put_back(&mut self.value, updates, &mut self.calls)
+    }
+}
+
+// Whether the counter `x` and the stamp are these.
+fn shows(
+    rt: &impl Abort,
+    alloc: Global,
+    bench: &Bench,
+    x: &str,
+    parts: [u64; 4],
+) -> Result<(), Fail> {
+    let text = read_x(rt, alloc, &bench.value, [0; 4])?.ok_or("no answer")?;
+    assert!(rt; text.as_slice() == x.as_bytes(), "not {x}");
+    assert_eq!(rt; parts_of(bench.value.val_ts()), parts);
+    Ok(())
+}
+
+// Whether the call that was entered so is of this replica's update with this number.
+fn entered(rt: &impl Abort, bench: &Bench, at: usize, place: u8, number: u64) {
+    assert!(rt; at < bench.calls.entries.len());
+    let spot = bench.calls.entries[at].1.spot;
+    assert!(rt;
+        spot.place == place && spot.number == number,
+        "the entry {at}"
+    );
+}
+
+#[test]
+fn a_chain_is_applied_from_its_end(rt: HostRuntime) -> Result<(), Fail> {
+    let updates = chain(&rt, rt.alloc())?;
+    let mut bench = Bench::new(&rt, rt.alloc(), 1000)?;
+    assert!(rt; bench.apply(&updates)?);
+    shows(&rt, rt.alloc(), &bench, "300", [150, 150, 0, 0])?;
+    for (at, place, number) in [
+        (0, 1, 1),
+        (1, 0, 150),
+        (2, 1, 2),
+        (3, 0, 149),
+        (298, 1, 150),
+        (299, 0, 1),
+    ] {
+        entered(&rt, &bench, at, place, number);
+    }
+    Ok(())
+}
+
+#[test]
+fn want_of_memory_keeps_the_value(rt: HostRuntime) -> Result<(), Fail> {
+    let updates = chain(&rt, rt.alloc())?;
+    let mut bench = Bench::new(&rt, rt.alloc(), 100)?;
+    assert!(rt; bench.apply(&updates).is_err());
+    shows(&rt, rt.alloc(), &bench, "0", [0; 4])?;
+    // With room it comes as far as from the start.
+    bench.calls = Calls::new(rt.alloc(), 1000);
+    assert!(rt; bench.apply(&updates)?);
+    shows(&rt, rt.alloc(), &bench, "300", [150, 150, 0, 0])
+}
+
+#[test]
+fn many_wait_for_one(rt: HostRuntime) -> Result<(), Fail> {
+    let mut bench = Bench::new(&rt, rt.alloc(), 1000)?;
+    let without = many(&rt, rt.alloc(), false)?;
+    assert!(rt; !bench.apply(&without)?);
+    shows(&rt, rt.alloc(), &bench, "0", [0; 4])?;
+    let with = many(&rt, rt.alloc(), true)?;
+    assert!(rt; bench.apply(&with)?);
+    shows(&rt, rt.alloc(), &bench, "105", [1, 100, 0, 0])?;
+    for (at, place, number) in [(0, 0, 1), (1, 1, 1), (2, 1, 2), (100, 1, 100)] {
+        entered(&rt, &bench, at, place, number);
+    }
+    Ok(())
+}
+
+#[test]
+fn a_value_is_put_back_or_kept(rt: HostRuntime) -> Result<(), Fail> {
+    let some = some_updates(&rt, rt.alloc())?;
+    let mut bench = Bench::new(&rt, rt.alloc(), 1000)?;
+    assert!(rt; bench.apply_and_put_back(&some)?);
+    shows(&rt, rt.alloc(), &bench, "0", [0; 4])?;
+    bench.calls = Calls::new(rt.alloc(), 1000);
+    assert!(rt; bench.apply(&some)?);
+    shows(&rt, rt.alloc(), &bench, "7", [1, 2, 0, 0])?;
+    // What comes next is applied to the older value that was kept: the second replica's from the third on.
+    let with = many(&rt, rt.alloc(), true)?;
+    bench.calls = Calls::new(rt.alloc(), 1000);
+    assert!(rt; bench.apply(&with)?);
+    shows(&rt, rt.alloc(), &bench, "105", [1, 100, 0, 0])
+}
+
+#[test]
+fn nothing_new_changes_nothing(rt: HostRuntime) -> Result<(), Fail> {
+    let some = some_updates(&rt, rt.alloc())?;
+    let mut bench = Bench::new(&rt, rt.alloc(), 1000)?;
+    assert!(rt; !bench.apply_twice(&some)?);
+    shows(&rt, rt.alloc(), &bench, "7", [1, 2, 0, 0])
 }
