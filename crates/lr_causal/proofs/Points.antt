@@ -124,7 +124,9 @@ module _ {Value Op : Type 0} where
       rw (keeps, is) record {
         restores =
             ap (λ (v : Applied Value). record (restored p state) {
-              value = v.value; val_ts = v.val_ts; calls = take p.calls calls
+              value = v.value;
+              val_ts = v.val_ts;
+              calls = take p.calls calls;
             }) (back p.applied)
             ∙ ap (λ (cs : List (Cid × Known)). record (restored p state) { calls = cs }) same ∙ point.restores;
         received = point.received;

@@ -37,7 +37,7 @@ module _ {A : Type 0} (spot_of : A → Spot) where
   in_order-of [] each = tt
   in_order-of (x ∷ items) each = (
     each-by_index (λ b. is_before (spot_of x) (spot_of b) ≡ true) items
-    (λ k b e. each 0 (suc k) (omega arith) x refl b e),
+        (λ k b e. each 0 (suc k) (omega arith) x refl b e),
     in_order-of items (λ j k less. each (suc j) (suc k) (omega (arith, less))),
   )
 

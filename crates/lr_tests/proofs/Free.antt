@@ -33,9 +33,10 @@ none-at spot_of spot (x ∷ items) none =
         let later : find (λ y. same_spot (spot_of y) spot) (items_at spot_of spot.place items) ≡ None =
         rw same at nothing in
         ((λ e. let is : false ≡ true = sym same ∙ same_spot-is (spot_of x) spot e in cc), rest later)
-    go false at t same nothing rest =
-        ((λ e. let is : false ≡ true = sym at ∙ eq-eqb (spot_of x).place spot.place (λ i. (e i).place) in cc),
-        rest nothing)
+    go false at t same nothing rest = (
+      (λ e. let is : false ≡ true = sym at ∙ eq-eqb (spot_of x).place spot.place (λ i. (e i).place) in cc),
+      rest nothing,
+    )
 
 -- what isn't there isn't found
 pub none-found : {A : Type 0} (found : Option (Bor A)) (first : Option A) → is_some found ≡ false

@@ -34,6 +34,6 @@ module _ {S Op : Type 0} {g : _} {h : _} (it : Run S Op g h) where
   front-read client front copied known is same =
       let within : client < it.fronts.len = rw it.each_client known in (
         subst (IsFront it.config client) (sym same)
-        (each-read it.fronts.items client front (IsFront it.config) it.all_fronts it.fronts.len it.fronts.ok.0 within is),
+            (each-read it.fronts.items client front (IsFront it.config) it.all_fronts it.fronts.len it.fronts.ok.0 within is),
         slice_get_read it.fronts.items it.fronts.len client front it.fronts.ok.0 within is ∙ (λ k. Some (sym same k)),
       )

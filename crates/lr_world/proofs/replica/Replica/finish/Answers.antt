@@ -9,9 +9,11 @@ use Rattle.lr_world.proofs.replica.Replica.finish.Goals as goal
 
 pub close-requires : goal.close-requires
 close-requires g c =
-    let before = c.requires.0 in
-    (before, IsPointOf-along c.args.point (state_of c.self.inside.causal) c.args.self.now.causal before
-    (ap (λ r. r.causal) c.self.view_is) c.requires.1)
+    let before = c.requires.0 in (
+      before,
+      IsPointOf-along c.args.point (state_of c.self.inside.causal) c.args.self.now.causal before
+          (ap (λ r. r.causal) c.self.view_is) c.requires.1,
+    )
 
 pub invariant_of-self : goal.invariant_of-self
 invariant_of-self g c =

@@ -36,9 +36,11 @@ returns-clause-made g c =
     (run_of it) (run_of next) (lines_of next) pending) (sym read.1)
     (front-begun it.config (run_of it) (run_of next) c.args.client front c.on_call.new.front _ c.open.new.self
     c.on_call.new.out (lines_of next) pending
-    (c.open.ensures ∙ ap (opened (Client c.args.client)) (c.len.ensures ∙ it.posted.ok.0)) c.in_ok-on_call.ensures.did
-    (c.requires.client, record {
-      parts = c.in_ok-on_call.ensures.same.parts ∙ read.0.parts;
-      number = c.in_ok-on_call.ensures.same.client ∙ read.0.number;
-    }) sent))
+    (c.open.ensures ∙ ap (opened (Client c.args.client)) (c.len.ensures ∙ it.posted.ok.0)) c.in_ok-on_call.ensures.did (
+      c.requires.client,
+      record {
+        parts = c.in_ok-on_call.ensures.same.parts ∙ read.0.parts;
+        number = c.in_ok-on_call.ensures.same.client ∙ read.0.number;
+      },
+    ) sent))
     c.send.ensures.ok

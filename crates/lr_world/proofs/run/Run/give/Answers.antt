@@ -24,11 +24,13 @@ on_message-requires g c =
 pub send-requires-clause-acting : goal.send-requires-clause-acting
 send-requires-clause-acting g c =
     let it = c.args.self.now in
-    let own = (front-read it c.args.client _ _ c.requires.client c.index.ensures c.copy-front.ensures).0 in
-    (c.requires.client, record {
-      parts = c.in_ok-on_message.ensures.same.parts ∙ own.parts;
-      number = c.in_ok-on_message.ensures.same.client ∙ own.number;
-    })
+    let own = (front-read it c.args.client _ _ c.requires.client c.index.ensures c.copy-front.ensures).0 in (
+      c.requires.client,
+      record {
+        parts = c.in_ok-on_message.ensures.same.parts ∙ own.parts;
+        number = c.in_ok-on_message.ensures.same.client ∙ own.number;
+      },
+    )
 
 pub send-requires-clause-posts : goal.send-requires-clause-posts
 send-requires-clause-posts g c =
@@ -55,9 +57,11 @@ returns-clause-made g c posted found =
     (front-begun it.config (run_of it) (run_of next) c.args.client front c.on_message.new.front _ c.open.new.self
     c.on_message.new.out (lines_of next) pending
     (c.open.ensures ∙ ap (opened (Client c.args.client)) (c.len.ensures ∙ it.posted.ok.0))
-    c.in_ok-on_message.ensures.did
-    (c.requires.client, record {
-      parts = c.in_ok-on_message.ensures.same.parts ∙ read.0.parts;
-      number = c.in_ok-on_message.ensures.same.client ∙ read.0.number;
-    }) sent)))
+    c.in_ok-on_message.ensures.did (
+      c.requires.client,
+      record {
+        parts = c.in_ok-on_message.ensures.same.parts ∙ read.0.parts;
+        number = c.in_ok-on_message.ensures.same.client ∙ read.0.number;
+      },
+    ) sent)))
     c.send.ensures.ok

@@ -75,10 +75,11 @@ pub send-requires-clause-begun : goal.send-requires-clause-begun
 send-requires-clause-begun g c =
     let it = c.args.self.now in
     let r = c.index_mut-replica.result.now in
-    let there = (replica-read it c.args.me r c.requires.me c.index_mut-replica.ensures.value).1 in
-    (it.replicas.items,
-    has-begun (run_of it) c.args.me r c.begin.new.self c.in_ok-point.point there c.in_ok-point.ensures.same
-    c.in_ok-point.ensures.point)
+    let there = (replica-read it c.args.me r c.requires.me c.index_mut-replica.ensures.value).1 in (
+      it.replicas.items,
+      has-begun (run_of it) c.args.me r c.begin.new.self c.in_ok-point.point there c.in_ok-point.ensures.same
+          c.in_ok-point.ensures.point,
+    )
 
 pub returns-clause-made : goal.returns-clause-made
 returns-clause-made g c =
