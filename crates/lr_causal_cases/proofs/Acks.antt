@@ -1,9 +1,11 @@
 -- Acknowledgements of one place, each behind those of lesser numbers.
-use Rattle.std.proofs.Common.{◌≡◌, ◌<◌, ◌≤◌, ◌++◌, ℕ, Bool, true, false, List, [], ◌∷◌, refl, arith, eq-eqb, lt-ltb}
+use Rattle.std.proofs.Common.{◌≡◌, ◌<◌, ◌≤◌, ◌++◌, ℕ, zero, suc, Bool, true, false, List, [], ◌∷◌, None, Some, refl}
+use Rattle.std.proofs.Common.{subst, arith, eq-eqb, lt-ltb}
 use Rattle.std.specs.Prelude.{◌||◌, ◌&&◌, nat_lt}
 use Rattle.std.specs.List.{AllByRecursion}
 use Rattle.lr_base.specs.Places.{AreInOrder}
-use Rattle.lr_base.specs.Rules.{is_before}
+use Rattle.lr_base.specs.Logged.{AllAcksReceived}
+use Rattle.lr_base.specs.Rules.{is_before, is_new}
 use Rattle.lr_base.specs.declared.messages.LogAck.{LogAck}
 
 -- each stands at this place, and none has a number past the last
@@ -42,3 +44,12 @@ in_order-push place last (a ∷ acks) b here past all order =
         → AllByRecursion (λ c. is_before a.spot c.spot ≡ true) (xs ++ b ∷ [])
     each [] none = (behind place last a b all.0 here past, tt)
     each (x ∷ xs) some = (some.0, each xs some.1)
+
+-- and were received, where it was
+pub received-push : (rep_ts : List ℕ) (acks : List LogAck) (b : LogAck) → is_new rep_ts b.spot ≡ false
+    → AllAcksReceived rep_ts acks → AllAcksReceived rep_ts (acks ++ b ∷ [])
+received-push rep_ts [] b own all zero = λ x e.
+    let same : b ≡ x = cc in subst (λ (a : LogAck). is_new rep_ts a.spot ≡ false) same own
+received-push rep_ts [] b own all (suc k) = λ x e. let none : None ≡ Some x = e in cc
+received-push rep_ts (a ∷ acks) b own all zero = all 0
+received-push rep_ts (a ∷ acks) b own all (suc k) = received-push rep_ts acks b own (λ j. all (suc j)) k

@@ -200,42 +200,6 @@ fn apply(
     value.apply_ready(updates, &received, calls)
 }
 
-// Whether something was applied. The older value is kept.
-fn apply_and_keep(
-    value: &mut Value<Tally>,
-    updates: &Updates,
-    calls: &mut Calls,
-) -> Result<bool, NoMemory>
-    requires { length value.old.val_ts ≡ 4 }
-    ensures { length value.new.val_ts ≡ 4 }
-{
-    let received = received(updates);
-    value.forget();
-    let Some(older) = value.apply_ready(updates, &received, calls)? else {
-        return Ok(false);
-    };
-    value.keep(older);
-    Ok(true)
-}
-
-// Whether something was applied. The older value is put back.
-fn apply_and_put_back(
-    value: &mut Value<Tally>,
-    updates: &Updates,
-    calls: &mut Calls,
-) -> Result<bool, NoMemory>
-    requires { length value.old.val_ts ≡ 4 }
-    ensures { length value.new.val_ts ≡ 4 }
-{
-    let received = received(updates);
-    value.forget();
-    let Some(older) = value.apply_ready(updates, &received, calls)? else {
-        return Ok(false);
-    };
-    value.put_back(older);
-    Ok(true)
-}
-
 // What the second of two applyings of the same answers.
 fn apply_twice(
     value: &mut Value<Tally>,
@@ -385,178 +349,25 @@ fn answers_wait_for_what_a_label_names(rt: HostRuntime) -> Result<(), Fail> {
     Ok(())
 }
 
-// Updates that each wait for the one before, where the next one stands at the end of what still waits: the second
-// replica's wait for one another, and the first's, from the last to the first, for the second's.
-fn chain(rt: &impl Abort, alloc: Global) -> Result<Updates, Fail> {
-    let mut updates = Updates::new(alloc);
-    for k in 1..151 {
-        let spot = Spot {
-            place: 0,
-            number: k,
-        };
-        updates.push(
-            rt,
-            update(rt, alloc, spot, k, [0, 151 - k, 0, 0], "add x 1")?,
-        )?;
-    }
-    for k in 1..151 {
-        let spot = Spot {
-            place: 1,
-            number: k,
-        };
-        updates.push(
-            rt,
-            update(rt, alloc, spot, 150 + k, [0, k - 1, 0, 0], "add x 1")?,
-        )?;
-    }
-    Ok(updates)
-}
-
-// Many updates of the second replica that wait for one of the first, which is there or not.
-fn many(rt: &impl Abort, alloc: Global, is_there: bool) -> Result<Updates, Fail> {
-    let mut updates = Updates::new(alloc);
-    if is_there {
-        let spot = Spot {
-            place: 0,
-            number: 1,
-        };
-        updates.push(rt, update(rt, alloc, spot, 200, [0; 4], "add x 5")?)?;
-    }
-    for k in 1..101 {
-        let spot = Spot {
-            place: 1,
-            number: k,
-        };
-        updates.push(rt, update(rt, alloc, spot, k, [1, 0, 0, 0], "add x 1")?)?;
-    }
-    Ok(updates)
-}
-
-// A value to which nothing was applied yet, and a table with room for so many calls.
-#[derive(Drop)]
-struct Bench {
-    value: Value<Tally>,
-    calls: Calls,
-    ghost parts: { length value.val_ts ≡ 4 },
-}
-
-impl Bench {
-    fn new(rt: &impl Abort, alloc: Global, room: usize) -> Result<Self, Fail> {
-        let value = Value::<Tally>::new(alloc, 4)?;
-        assert!(rt; value.val_ts().parts() == 4);
-        Ok(Bench {
-            value,
-            calls: Calls::new(alloc, room),
-        })
-    }
-
-    // Whether something was applied. The older value is kept.
-    fn apply(&mut self, updates: &Updates) -> Result<bool, NoMemory> {
-        apply_and_keep(&mut self.value, updates, &mut self.calls)
-    }
-
-    // Whether something is applied by the second of two applyings of the same.
-    fn apply_twice(&mut self, updates: &Updates) -> Result<bool, NoMemory> {
-        let last = apply_twice(&mut self.value, updates, &mut self.calls)?;
-        Ok(last.is_some())
-    }
-
-    // Applies, and puts the older value back.
-    fn apply_and_put_back(&mut self, updates: &Updates) -> Result<bool, NoMemory> {
-        apply_and_put_back(&mut self.value, updates, &mut self.calls)
-    }
-}
-
-// Whether the counter `x` and the stamp are these.
-fn shows(
-    rt: &impl Abort,
-    alloc: Global,
-    bench: &Bench,
-    x: &str,
-    parts: [u64; 4],
-) -> Result<(), Fail> {
-    let text = read_x(rt, alloc, &bench.value, [0; 4])?.ok_or("no answer")?;
-    assert!(rt; text.as_slice() == x.as_bytes(), "not {x}");
-    assert_eq!(rt; parts_of(bench.value.val_ts()), parts);
-    Ok(())
-}
-
-// Whether the call that was entered so is of this replica's update with this number.
-fn entered(rt: &impl Abort, bench: &Bench, at: usize, place: u8, number: u64) {
-    assert!(rt; at < bench.calls.entries.len());
-    let spot = bench.calls.entries[at].1.spot;
-    assert!(rt;
-        spot.place == place && spot.number == number,
-        "the entry {at}"
-    );
-}
-
-#[test]
-fn a_chain_is_applied_from_its_end(rt: HostRuntime) -> Result<(), Fail> {
-    let updates = chain(&rt, rt.alloc())?;
-    let mut bench = Bench::new(&rt, rt.alloc(), 1000)?;
-    assert!(rt; bench.apply(&updates)?);
-    shows(&rt, rt.alloc(), &bench, "300", [150, 150, 0, 0])?;
-    for (at, place, number) in [
-        (0, 1, 1),
-        (1, 0, 150),
-        (2, 1, 2),
-        (3, 0, 149),
-        (298, 1, 150),
-        (299, 0, 1),
-    ] {
-        entered(&rt, &bench, at, place, number);
-    }
-    Ok(())
-}
-
 #[test]
 fn want_of_memory_keeps_the_value(rt: HostRuntime) -> Result<(), Fail> {
-    let updates = chain(&rt, rt.alloc())?;
-    let mut bench = Bench::new(&rt, rt.alloc(), 100)?;
-    assert!(rt; bench.apply(&updates).is_err());
-    shows(&rt, rt.alloc(), &bench, "0", [0; 4])?;
-    // With room it comes as far as from the start.
-    bench.calls = Calls::new(rt.alloc(), 1000);
-    assert!(rt; bench.apply(&updates)?);
-    shows(&rt, rt.alloc(), &bench, "300", [150, 150, 0, 0])
-}
-
-#[test]
-fn many_wait_for_one(rt: HostRuntime) -> Result<(), Fail> {
-    let mut bench = Bench::new(&rt, rt.alloc(), 1000)?;
-    let without = many(&rt, rt.alloc(), false)?;
-    assert!(rt; !bench.apply(&without)?);
-    shows(&rt, rt.alloc(), &bench, "0", [0; 4])?;
-    let with = many(&rt, rt.alloc(), true)?;
-    assert!(rt; bench.apply(&with)?);
-    shows(&rt, rt.alloc(), &bench, "105", [1, 100, 0, 0])?;
-    for (at, place, number) in [(0, 0, 1), (1, 1, 1), (2, 1, 2), (100, 1, 100)] {
-        entered(&rt, &bench, at, place, number);
-    }
+    let updates = some_updates(&rt, rt.alloc())?;
+    let mut calls = Calls::new(rt.alloc(), 1);
+    let mut value = Value::<Tally>::new(rt.alloc(), 4)?;
+    assert!(rt; value.val_ts().parts() == 4);
+    assert!(rt; apply(&mut value, &updates, &mut calls).is_err());
+    assert_eq!(rt; parts_of(value.val_ts()), [0, 0, 0, 0]);
     Ok(())
-}
-
-#[test]
-fn a_value_is_put_back_or_kept(rt: HostRuntime) -> Result<(), Fail> {
-    let some = some_updates(&rt, rt.alloc())?;
-    let mut bench = Bench::new(&rt, rt.alloc(), 1000)?;
-    assert!(rt; bench.apply_and_put_back(&some)?);
-    shows(&rt, rt.alloc(), &bench, "0", [0; 4])?;
-    bench.calls = Calls::new(rt.alloc(), 1000);
-    assert!(rt; bench.apply(&some)?);
-    shows(&rt, rt.alloc(), &bench, "7", [1, 2, 0, 0])?;
-    // What comes next is applied to the older value that was kept: the second replica's from the third on.
-    let with = many(&rt, rt.alloc(), true)?;
-    bench.calls = Calls::new(rt.alloc(), 1000);
-    assert!(rt; bench.apply(&with)?);
-    shows(&rt, rt.alloc(), &bench, "105", [1, 100, 0, 0])
 }
 
 #[test]
 fn nothing_new_changes_nothing(rt: HostRuntime) -> Result<(), Fail> {
-    let some = some_updates(&rt, rt.alloc())?;
-    let mut bench = Bench::new(&rt, rt.alloc(), 1000)?;
-    assert!(rt; !bench.apply_twice(&some)?);
-    shows(&rt, rt.alloc(), &bench, "7", [1, 2, 0, 0])
+    let updates = some_updates(&rt, rt.alloc())?;
+    let mut calls = Calls::new(rt.alloc(), 1000);
+    let mut value = Value::<Tally>::new(rt.alloc(), 4)?;
+    assert!(rt; value.val_ts().parts() == 4);
+    let last = apply_twice(&mut value, &updates, &mut calls)?;
+    assert!(rt; last.is_none());
+    assert_eq!(rt; parts_of(value.val_ts()), [1, 2, 0, 0]);
+    Ok(())
 }
