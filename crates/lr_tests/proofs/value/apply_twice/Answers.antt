@@ -12,5 +12,5 @@ apply_ready-requires c =
 pub apply_ready-requires-2 : goal.apply_ready-requires-2
 apply_ready-requires-2 c =
     second-look c.received-received.result _ c.apply_ready.new.self c.in_ok-apply_ready.ensures.settled
-    (c.in_ok-apply_ready.ensures.goes_on.parts ∙ ap (λ (v : Applied _). length v.val_ts) c.forget.ensures ∙ c.requires)
+    (c.in_ok-apply_ready.ensures.stays.1.parts ∙ ap (λ (v : Applied _). length v.val_ts) c.forget.ensures ∙ c.requires)
     c.received-received.ensures.logged c.received-received.ensures.received c.received-received.ensures.parts
