@@ -1,6 +1,8 @@
 pub mod Ascending
 pub mod ByteLaws
 pub mod Bytes
+pub mod CallLaws
+pub mod Calls
 pub mod Config
 pub mod Events
 pub mod Fronts
@@ -11,6 +13,7 @@ pub mod Lattice
 pub mod Limits
 pub mod Logged
 pub mod Meaning
+pub mod NameLaws
 pub mod OrderLaws
 pub mod Orders
 pub mod PlaceLaws

@@ -6,7 +6,6 @@ use Rattle.lr_base.specs.Meaning.{Meaning}
 use Rattle.lr_base.specs.Rules.{CausalState, first_state}
 use Rattle.lr_base.specs.declared.events.StateLine.{StateLine}
 use Rattle.lr_base.specs.declared.names.Config.{Config}
-use Rattle.lr_base.specs.Ascending.{ascending}
 
 -- what the run is set up with, which replica it is, and its state
 pub record ReplicaState (Value Op : Type 0) : Type 0 where
@@ -40,7 +39,7 @@ state_line_of replica = record {
   received = replica.causal.rep_ts;
   log = map (λ u. u.spot) replica.causal.updates;
   acks = map (λ a. a.spot) replica.causal.acks;
-  calls = ascending (map (λ e. e.0) replica.causal.calls);
+  calls = map (λ e. e.0) replica.causal.calls;
   held = map (λ c. c.cid) replica.causal.held;
   marks = [];
 }

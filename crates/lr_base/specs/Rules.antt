@@ -3,6 +3,7 @@ use Rattle.std.specs.Prelude.{ℕ, ◌+◌, find, filter, get_or, length, set, n
 use Rattle.std.specs.Prelude.{◌==◌, nat_lt, if◌then◌else◌, List, [], ◌∷◌, ◌++◌, Option, Some, None, is_some}
 use Rattle.std.specs.Option.{option_map, option_map_or}
 use Rattle.lr_base.specs.Bytes.{Bytes}
+use Rattle.lr_base.specs.Calls.{enter_call}
 use Rattle.lr_base.specs.declared.names.Cid.{Cid}
 use Rattle.lr_base.specs.declared.names.Spot.{Spot}
 use Rattle.lr_base.specs.declared.messages.Call.{Call}
@@ -171,7 +172,7 @@ apply_one m p u =
     else record {
       value = m.apply p.value u.op;
       val_ts = covered;
-      calls = p.calls ++ (u.cid, record { spot = u.spot; stamp = stamp_of u }) ∷ [];
+      calls = enter_call (u.cid, record { spot = u.spot; stamp = stamp_of u }) p.calls;
     }
 
 -- whether an update counts as applied to a value with this stamp

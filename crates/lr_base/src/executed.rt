@@ -1,5 +1,6 @@
 //! What a value's applying asks of a table of executed calls.
-ghost use Rattle.std.specs.Prelude.{List, ◌≡◌, ◌-◌, [], ◌∷◌, ◌++◌, length, take, None, is_some, OnOk, OnErr};
+ghost use Rattle.std.specs.Prelude.{List, ◌≡◌, None, is_some, OnOk, OnErr};
+ghost use Rattle.lr_base.specs.Calls.{enter_call};
 ghost use Rattle.lr_base.specs.Rules.{known_of};
 ghost use Rattle.lr_base.specs.declared.names.Cid.{Cid};
 ghost use Rattle.lr_base.specs.declared.messages.Known.{Known};
@@ -10,8 +11,13 @@ use crate::rows::NoMemory;
 
 /// A table of executed calls, each with one spot and its stamp.
 pub trait Executed {
-    /// The calls in the order in which they were entered.
+    /// The calls with what is known of them, in the order of calls.
     ghost known: { Self → List (Cid × Known) };
+
+    /// What no entering changes.
+    ghost Kept: { Type 0 };
+
+    ghost kept: { Self → Kept };
 
     /// Whether the call was executed.
     fn has(&self, cid: Cid) -> bool
@@ -20,10 +26,7 @@ pub trait Executed {
     /// Enters a call that isn't there.
     fn enter(&mut self, cid: Cid, entry: Known) -> Result<(), NoMemory>
         requires { known_of (known self.old) cid ≡ None }
-        ensures ok { OnOk result (known self.new ≡ known self.old ++ (cid, entry) ∷ []) }
-        ensures err { OnErr result (known self.new ≡ known self.old) };
-
-    /// Takes out the call that was entered last. A table with no call stays as it is.
-    fn leave(&mut self)
-        ensures { known self.new ≡ take (length (known self.old) - 1) (known self.old) };
+        ensures ok { OnOk result (known self.new ≡ enter_call (cid, entry) (known self.old)) }
+        ensures err { OnErr result (known self.new ≡ known self.old) }
+        ensures kept { kept self.new ≡ kept self.old };
 }

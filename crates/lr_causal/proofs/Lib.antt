@@ -5,6 +5,7 @@ mod LabelLemmas
 mod Points
 mod Received
 mod Remembering
+mod SortedCalls
 mod StampRows
 mod Tables
 mod Waiting

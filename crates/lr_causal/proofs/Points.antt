@@ -3,8 +3,8 @@ use Rattle.std.proofs.Common.{◌≡◌, ◌+◌, ◌<◌, ℕ, true, not, List,
 use Rattle.std.specs.Prelude.{filter}
 use Rattle.std.specs.Option.{ForSome}
 use Rattle.std.proofs.Math.ListN.{length-set}
-use Rattle.std.proofs.Math.Seq.{take-length, take-take}
-use Rattle.std.proofs.lemmas.List.{length-take, set-get_or, set-set}
+use Rattle.std.proofs.Math.Seq.{take-length}
+use Rattle.std.proofs.lemmas.List.{set-get_or, set-set}
 use Rattle.lr_base.specs.declared.messages.Gossip.{Gossip}
 use Rattle.lr_base.specs.declared.messages.Known.{Known}
 use Rattle.lr_base.specs.declared.messages.LogAck.{LogAck}
@@ -18,6 +18,8 @@ use Rattle.lr_base.specs.Logged.{AllAcksReceived, AllReceived}
 use Rattle.lr_causal.specs.Savepoint.{HasShapeOf, IsPointOf, Lags, Saved, kept_first, put_back_in, restored}
 use Rattle.lr_causal.proofs.Kept.{filter-none, filter-insert, filter-insert_all}
 use Rattle.lr_causal.proofs.Each.{Each-passes}
+use Rattle.lr_causal.specs.Tables.{without}
+use Rattle.lr_causal.proofs.Tables.{without-none}
 use Rattle.lr_causal.proofs.Received.{new-earlier, set_part-above}
 use Rattle.lr_log.specs.Items.{Items, items_of}
 
@@ -40,18 +42,17 @@ module _ {Value Op : Type 0} where
   point-same p state new before is point = rw is point
 
   -- a savepoint that was just made
-  pub point-saved : (rep_ts row : List ℕ) (heard calls held : ℕ) (state : CausalState Value Op)
-      → rep_ts ≡ state.rep_ts → row ≡ get_or state.table heard [] → calls ≡ length state.calls → held ≡ length state.held
+  pub point-saved : (rep_ts row : List ℕ) (heard held : ℕ) (entered : List Cid) (state : CausalState Value Op)
+      → rep_ts ≡ state.rep_ts → row ≡ get_or state.table heard [] → entered ≡ [] → held ≡ length state.held
       → heard < length state.table → length (get_or state.table heard []) ≡ length state.rep_ts
       → AllReceived state.rep_ts state.updates → AllAcksReceived state.rep_ts state.acks
-      → IsPointOf (record { rep_ts = rep_ts; top = state.top; heard = heard; row = row; calls = calls; held = held; applied = None }) state state
-  point-saved rep_ts row heard calls held state stamps own count waiting within parts received acks_received =
+      → IsPointOf (record { rep_ts = rep_ts; top = state.top; heard = heard; row = row; entered = entered; held = held; applied = None }) state state
+  point-saved rep_ts row heard held entered state stamps own none waiting within parts received acks_received =
       let updates = filter-none (λ (u : LogUpdate Op). is_new state.rep_ts u.spot) state.updates received in
       let acks = filter-none (λ (a : LogAck). is_new state.rep_ts a.spot) state.acks acks_received in
-      rw (stamps, own, count, waiting) record {
-        restores = rw (updates, acks, take-length state.calls, take-length state.held, set-get_or state.table heard []) refl;
+      rw (stamps, own, none, waiting) record {
+        restores = rw (updates, acks, without-none state.calls, take-length state.held, set-get_or state.table heard []) refl;
         received = stamp_le-refl state.rep_ts;
-        calls_most = omega arith;
         held_most = omega arith;
         lags = λ o e v f. absurd (cc);
         shape = record {
@@ -72,7 +73,6 @@ module _ {Value Op : Type 0} where
             ap (λ (updates : List (LogUpdate Op)). record (restored p state) { updates = updates }) (filter-insert (λ (x : LogUpdate Op). is_new p.rep_ts x.spot) (λ (a b : LogUpdate Op). is_before a.spot b.spot) u state.updates new)
             ∙ point.restores;
         received = stamp_le-trans p.rep_ts state.rep_ts (set_part state.rep_ts u.spot.place u.spot.number) point.received (set_part-above state.rep_ts u.spot.place u.spot.number (omega arith));
-        calls_most = point.calls_most;
         held_most = point.held_most;
         lags = point.lags;
         shape = shape-along p state _ (length-set_part state.rep_ts u.spot.place u.spot.number within) refl point.shape;
@@ -100,7 +100,6 @@ module _ {Value Op : Type 0} where
             ∙ ap (λ (rows : List (List ℕ)). record (restored p state) { table = rows }) (row-back state.table from p.heard joined p.row heard)
             ∙ point.restores;
         received = stamp_le-trans p.rep_ts state.rep_ts (join state.rep_ts gossip.rep_ts) point.received (join-least state.rep_ts gossip.rep_ts).above_first;
-        calls_most = point.calls_most;
         held_most = point.held_most;
         lags = point.lags;
         shape =
@@ -108,29 +107,25 @@ module _ {Value Op : Type 0} where
             (length-set state.table from joined) point.shape;
       }
 
-  -- what is ready is applied: the value of before is kept, and the table of calls has grown
+  -- what is ready is applied: the value of before is kept, and which calls were entered
   pub point-applied : (p kept : Saved Value) (state before : CausalState Value Op) (older : Lagging Value)
       (next : Applied Value) (calls : List (Cid × Known))
-      → kept ≡ record p { applied = Some (kept_first p.applied older) }
+      (entered : List Cid)
+      → kept ≡ record p { entered = entered; applied = Some (kept_first p.applied older) }
       → older ≡ record { value = state.value; val_ts = state.val_ts; newer = Some next.value }
-      → take (length state.calls) calls ≡ state.calls → length state.val_ts ≡ length state.rep_ts
+      → without entered calls ≡ without p.entered state.calls → length state.val_ts ≡ length state.rep_ts
       → IsPointOf p state before
       → IsPointOf kept (record state { value = next.value; val_ts = next.val_ts; calls = calls }) before
-  point-applied p kept state before older next calls keeps is grown val_parts point =
-      let long = ap length grown in
-      let most = length-take (length state.calls) calls in
-      let same : take p.calls calls ≡ take p.calls state.calls =
-      sym (take-take p.calls (length state.calls) calls point.calls_most) ∙ ap (take p.calls) grown in
+  point-applied p kept state before older next calls entered keeps is same val_parts point =
       rw (keeps, is) record {
         restores =
             ap (λ (v : Applied Value). record (restored p state) {
               value = v.value;
               val_ts = v.val_ts;
-              calls = take p.calls calls;
+              calls = without entered calls;
             }) (back p.applied)
             ∙ ap (λ (cs : List (Cid × Known)). record (restored p state) { calls = cs }) same ∙ point.restores;
         received = point.received;
-        calls_most = let least = point.calls_most in omega arith;
         held_most = point.held_most;
         lags = lag p.applied;
         shape = record {

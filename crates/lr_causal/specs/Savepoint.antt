@@ -4,16 +4,18 @@ use Rattle.std.specs.Option.{ForSome}
 use Rattle.lr_base.specs.Replicas.{ReplicaState}
 use Rattle.lr_base.specs.Rules.{CausalState, is_new}
 use Rattle.lr_base.specs.Stamps.{stamp_le}
+use Rattle.lr_base.specs.declared.names.Cid.{Cid}
+use Rattle.lr_causal.specs.Tables.{without}
 use Rattle.lr_value.specs.Applied.{Applied, Lagging}
 
--- what a savepoint remembers of a state: the stamps and the one row that a step may overwrite, how long its lists were,
--- and the value where it was changed
+-- what a savepoint remembers of a state: the stamps and the one row that a step may overwrite, which calls were entered
+-- since, how many queries were held, and the value where it was changed
 pub record Saved (Value : Type 0) : Type 0 where
   pub rep_ts : List ℕ
   pub top : ℕ
   pub heard : ℕ
   pub row : List ℕ
-  pub calls : ℕ
+  pub entered : List Cid
   pub held : ℕ
   pub applied : Option (Lagging Value)
 
@@ -37,7 +39,7 @@ restored p state =
       value = before.value;
       updates = filter (λ u. not (is_new p.rep_ts u.spot)) state.updates;
       acks = filter (λ a. not (is_new p.rep_ts a.spot)) state.acks;
-      calls = take p.calls state.calls;
+      calls = without p.entered state.calls;
       table = set state.table p.heard p.row;
       top = p.top;
       held = take p.held state.held;
@@ -58,7 +60,6 @@ Lags applied now = ForSome applied (λ older. ForSome older.newer (λ value. val
 pub record IsPointOf {Value Op : Type 0} (p : Saved Value) (state before : CausalState Value Op) : Type 0 where
   pub restores : restored p state ≡ before
   pub received : stamp_le p.rep_ts state.rep_ts ≡ true
-  pub calls_most : p.calls ≤ length state.calls
   pub held_most : p.held ≤ length state.held
   pub lags : Lags p.applied state.value
   pub shape : HasShapeOf p state

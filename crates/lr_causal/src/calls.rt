@@ -1,14 +1,15 @@
 //! Which calls were executed, and where.
-ghost use Rattle.std.specs.Prelude.{◌≡◌, [], length, map, take, IfOk};
-ghost use Rattle.std.specs.Option.{option_copied};
+ghost use Rattle.std.specs.Prelude.{◌≡◌, ◌≤◌, [], ◌∷◌, drop, length, map, take, IfOk, OnOk, OnErr, None, is_some};
+ghost use Rattle.lr_base.specs.Calls.{enter_call};
 ghost use Rattle.lr_base.specs.Rules.{known_of};
+ghost use Rattle.lr_causal.specs.Tables.{without};
 
 use indexmap::IndexMap;
 use lr_base::{Cid, Executed, Known, NoMemory};
 use std::alloc::Global;
 use std::marker::Model;
 
-/// The executed calls, each with one spot and its stamp, in the order in which they were executed.
+/// The executed calls, each with one spot and its stamp.
 #[derive(Drop)]
 pub struct CallTable {
     known: IndexMap<Cid, Known>,
@@ -16,15 +17,22 @@ pub struct CallTable {
 
 impl Model for CallTable {
     ghost use Rattle.std.specs.Prelude.{List};
+    ghost use Rattle.std.specs.HashMap.{IsUnique};
+    ghost use Rattle.lr_base.specs.Calls.{by_call};
+    ghost use Rattle.lr_base.specs.contracts.names.CidPartialEq.TheImpl.{eq-value};
     ghost use Rattle.lr_base.specs.declared.names.Cid.{Cid};
     ghost use Rattle.lr_base.specs.declared.messages.Known.{Known};
 
     ghost Value = { List (Cid × Known) };
 
-    ghost view = { λ table. table.known.entries };
+    ghost view = { λ table. by_call table.known.entries };
+
+    ghost invariant = { λ table. IsUnique eq-value.it table.known };
 }
 
 impl CallTable {
+    ghost use Rattle.lr_base.specs.Calls.{AreByCall};
+
     /// No call.
     pub fn new(alloc: Global) -> Self
         ensures { result ≡ [] }
@@ -35,24 +43,18 @@ impl CallTable {
     }
 
     /// Where the call was executed, if it was.
-    pub fn find(&self, cid: Cid) -> Option<&Known>
-        ensures { option_copied result ≡ known_of self.now cid }
+    pub fn find(&self, cid: Cid) -> Option<Known>
+        ensures { result ≡ known_of self.now cid }
     {
-        self.known.get(&cid)
+        let known = self.known.get(&cid)?;
+        Some(known.copy())
     }
 
-    /// How many calls were executed.
-    pub fn len(&self) -> usize
-        ensures { result ≡ length self.now }
+    // Whether the call was executed.
+    fn has(&self, cid: Cid) -> bool
+        ensures { result ≡ is_some (known_of self.now cid) }
     {
-        self.known.len()
-    }
-
-    /// Forgets the calls behind the first so many. It takes no memory.
-    pub fn cut(&mut self, most: usize)
-        ensures { self.new ≡ take most self.old }
-    {
-        self.known.truncate(most);
+        self.known.contains_key(&cid)
     }
 
     /// A table equal to this one.
@@ -63,28 +65,111 @@ impl CallTable {
         Ok(CallTable { known })
     }
 
-    /// The executed calls, in the order in which they were executed.
+    /// The executed calls, ascending.
     pub fn cids(&self, alloc: Global) -> Result<Vec<Cid>, NoMemory>
         ensures { IfOk result (λ cids. cids.items ≡ map (λ e. e.0) self.now) }
     {
-        let cids = self.known.keys().copied().collect(alloc)?;
+        let mut cids = keys_of(&self.known, alloc)?;
+        cids.sort_unstable();
         Ok(cids)
     }
-}
 
-impl Executed for CallTable {
-    ghost known = { λ table. table };
-
-    fn has(&self, cid: Cid) -> bool {
-        self.known.contains_key(&cid)
-    }
-
-    fn enter(&mut self, cid: Cid, entry: Known) -> Result<(), NoMemory> {
+    // Enters a call that isn't there.
+    fn insert(&mut self, cid: Cid, entry: Known) -> Result<(), NoMemory>
+        requires { known_of self.old cid ≡ None }
+        ensures ok { OnOk result (self.new ≡ enter_call (cid, entry) self.old) }
+        ensures err { OnErr result (self.new ≡ self.old) }
+    {
         self.known.insert(cid, entry)?;
         Ok(())
     }
 
-    fn leave(&mut self) {
-        let _last = self.known.pop();
+    // Takes out one call, if it is there.
+    fn take_out(&mut self, cid: Cid)
+        ensures { self.new ≡ without (cid ∷ []) self.old }
+    {
+        let _known = self.known.swap_remove(&cid);
+    }
+
+    /// Takes out these calls. It takes no memory.
+    pub(crate) fn leave(&mut self, cids: &[Cid])
+        ensures { self.new ≡ without cids.now self.old }
+    {
+        for cid in cids {
+            self.take_out(*cid);
+        }
+    }
+}
+
+// The calls of a map's entries.
+fn keys_of(known: &IndexMap<Cid, Known>, alloc: Global) -> Result<Vec<Cid>, NoMemory>
+    ensures { IfOk result (λ cids. cids.items ≡ map (λ e. e.0) known.now.entries) }
+{
+    let cids = known.keys().copied().collect(alloc)?;
+    Ok(cids)
+}
+
+/// A table of executed calls that are being entered, so that they can be taken out again.
+#[derive(Drop)]
+pub(crate) struct Entering {
+    pub(crate) table: CallTable,
+    /// The calls that were entered: those of before, and behind them the new ones.
+    pub(crate) entered: Vec<Cid>,
+    pub(crate) before: usize,
+    ghost within: { before ≤ length entered.items },
+}
+
+impl Entering {
+    pub(crate) fn new(table: CallTable, entered: Vec<Cid>) -> Self
+        ensures table { result.table ≡ table }
+        ensures entered { result.entered.items ≡ entered.items }
+        ensures before { result.before ≡ length entered.items }
+    {
+        let before = entered.len();
+        Entering {
+            table,
+            entered,
+            before,
+        }
+    }
+
+    /// Takes out what is new. It takes no memory.
+    pub(crate) fn undo(&mut self)
+        ensures table { self.new.table ≡ without (drop self.old.before self.old.entered.items) self.old.table }
+        ensures entered { self.new.entered.items ≡ take self.old.before self.old.entered.items }
+    {
+        self.table.leave(&self.entered[self.before..]);
+        self.entered.truncate(self.before);
+    }
+
+    /// Gives the table and the calls that were entered.
+    pub(crate) fn end(self, table: &mut CallTable, entered: &mut Vec<Cid>)
+        ensures table { table.new ≡ self.table }
+        ensures entered { entered.new.items ≡ self.entered.items }
+    {
+        *table = self.table;
+        *entered = self.entered;
+    }
+}
+
+impl Executed for Entering {
+    ghost use Rattle.std.specs.Prelude.{List};
+    ghost use Rattle.lr_base.specs.declared.names.Cid.{Cid};
+    ghost use Rattle.lr_base.specs.declared.messages.Known.{Known};
+
+    ghost known = { λ it. it.table };
+
+    ghost Kept = { List Cid × List (Cid × Known) };
+
+    ghost kept = { λ it. (take it.before it.entered.items, without (drop it.before it.entered.items) it.table) };
+
+    fn has(&self, cid: Cid) -> bool {
+        self.table.has(cid)
+    }
+
+    fn enter(&mut self, cid: Cid, entry: Known) -> Result<(), NoMemory> {
+        self.entered.push(cid)?;
+        self.table.insert(cid, entry)?;
+        Ok(())
     }
 }

@@ -5,6 +5,7 @@ ghost use Rattle.lr_base.specs.Logged.{AllAcksReceived, AllKnown, AllLogged, All
 ghost use Rattle.lr_causal.specs.Causal.{AllStamps, HasSeen, NoneApplied};
 ghost use Rattle.lr_value.specs.Remembered.{Remembers};
 
+use crate::applying::apply_ready;
 use crate::calls::CallTable;
 use crate::gossip::{new_acks, new_updates};
 use crate::heard::{copy_table, first_table, join_row, put_row, row_of};
@@ -254,7 +255,7 @@ impl<S: Service> Causal<S> {
             result ≡ taken_before (known_of state.calls cid) (find (λ u. same_cid u.cid cid) state.updates) }
     {
         if let Some(known) = self.calls.find(cid) {
-            return Some(known.copy());
+            return Some(known);
         }
         let update = self.log.first_update(cid)?;
         Some(Known {
@@ -349,7 +350,7 @@ impl<S: Service> Causal<S> {
         Ok(())
     }
 
-    /// What is needed to undo what comes next: a stamp, lengths, no value, no item, no call, and of what replicas were
+    /// What is needed to undo what comes next: a stamp, a length, no value, no item, no call, and of what replicas were
     /// heard to have received the one row of `heard`. It takes no memory.
     pub fn save(&self, heard: u8) -> Savepoint<S>
         requires { heard < (config_of self.now).replicas }
@@ -361,7 +362,7 @@ impl<S: Service> Causal<S> {
             top: self.top,
             heard,
             row: row_of(self.table.as_slice(), heard),
-            calls: self.calls.len(),
+            entered: Vec::new(self.log.allocator()),
             held: self.held.len(),
             applied: None,
         }
@@ -378,12 +379,13 @@ impl<S: Service> Causal<S> {
             → IsPointOf point.new (state_of self.new) before }
         ensures same { IsSame (replica_of self.old) (replica_of self.new) }
     {
-        let count = self.calls.len();
-        let Ok(older) = self
-            .value
-            .apply_ready(&self.log, &self.rep_ts, &mut self.calls)
-        else {
-            self.calls.cut(count);
+        let Ok(older) = apply_ready(
+            &mut self.value,
+            &self.log,
+            &self.rep_ts,
+            &mut self.calls,
+            &mut point.entered,
+        ) else {
             return Err(NoMemory);
         };
         if let Some(older) = older {
@@ -400,7 +402,8 @@ impl<S: Service> Causal<S> {
         ensures state { state_of self.new ≡ state_of self.old }
         ensures same { IsSame (replica_of self.old) (replica_of self.new) }
     {
-        if let Some(older) = point.applied {
+        let Savepoint { applied, .. } = point;
+        if let Some(older) = applied {
             self.value.keep(older);
         }
     }
@@ -424,7 +427,7 @@ impl<S: Service> Causal<S> {
         ensures same { IsSame (replica_of self.old) (replica_of self.new) }
     {
         self.log.drop_new(&point.rep_ts);
-        self.calls.cut(point.calls);
+        self.calls.leave(point.entered.as_slice());
         self.held.truncate(point.held);
         put_back(&mut self.value, point.applied);
         self.rep_ts = point.rep_ts;

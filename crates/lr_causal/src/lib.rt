@@ -1,6 +1,7 @@
 //! The causal part of a replica: what it accepted, what it applied, and what it answers.
 #![tactic(auto)]
 
+mod applying;
 mod calls;
 mod causal;
 mod gossip;

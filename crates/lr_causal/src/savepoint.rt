@@ -2,13 +2,13 @@
 ghost use Rattle.std.specs.Prelude.{◌≡◌, Some, None};
 ghost use Rattle.lr_causal.specs.Savepoint.{kept_first, put_back_in};
 
-use lr_base::Stamp;
 use lr_base::lr_service::Service;
+use lr_base::{Cid, Stamp};
 use lr_value::{Older, Value};
 use std::marker::Model;
 
 /// A replica's state before a step, as far as a step may overwrite it: what it had received, its last number, one row
-/// of what was heard, how long its lists were, and its value once that is changed.
+/// of what was heard, which calls were entered since, how many queries were held, and its value once that is changed.
 #[derive(Drop)]
 pub struct Savepoint<S: Service> {
     pub(crate) rep_ts: Stamp,
@@ -16,8 +16,8 @@ pub struct Savepoint<S: Service> {
     // A replica, and what it was last heard to have received.
     pub(crate) heard: u8,
     pub(crate) row: Stamp,
-    // How many calls were executed.
-    pub(crate) calls: usize,
+    // The calls that were entered since.
+    pub(crate) entered: Vec<Cid>,
     // How many queries were held.
     pub(crate) held: usize,
     // The value, where the step has changed it.
@@ -34,7 +34,7 @@ impl<S: Service> Model for Savepoint<S> {
       top = it.top;
       heard = it.heard;
       row = it.row;
-      calls = it.calls;
+      entered = it.entered.items;
       held = it.held;
       applied = it.applied;
     } };

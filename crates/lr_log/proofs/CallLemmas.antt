@@ -21,7 +21,7 @@ use Rattle.lr_log.specs.Rows.{AreRows, insert_item, same_spot, together}
 use Rattle.lr_log.proofs.RowLemmas.{AreRows-emptied, AreRows-filter, filter-all, in_order-together, together-emptied}
 use Rattle.lr_log.proofs.RowLemmas.{together-filter}
 use Rattle.lr_log.proofs.Searches.{each-at}
-use Rattle.lr_log.specs.SpotLaws.{before-apart}
+use Rattle.lr_base.specs.NameLaws.{before-apart}
 
 -- ---- insertion
 

@@ -15,9 +15,9 @@ use Rattle.lr_base.specs.declared.names.Spot.{Spot}
 use Rattle.lr_log.specs.Calls.{IsPlaced, entry_before, entry_of, index_of}
 use Rattle.lr_log.specs.declared.calls.CallSpot.{CallSpot}
 use Rattle.lr_log.specs.Rows.{same_spot, together}
-use Rattle.lr_log.specs.SpotLaws.{before-apart}
+use Rattle.lr_base.specs.NameLaws.{before-apart, cid-apart, same_cid-is}
 use Rattle.lr_log.proofs.CallLemmas.{each-entry}
-use Rattle.lr_log.proofs.Entries.{as_spot, cid-same, entry-holds, entry-shown, same-cid}
+use Rattle.lr_log.proofs.Entries.{entry-holds, entry-shown, same-cid}
 use Rattle.lr_log.proofs.Entries.{same_spot-apart, same_spot-refl}
 use Rattle.lr_log.proofs.RowLemmas.{in_order-together, items_at-together}
 use Rattle.lr_log.proofs.Searches.{each-at}
@@ -181,8 +181,8 @@ module _ (cid : Cid) where
       go : (s : Bool) → same_cid (get_or entries i d).cid cid ≡ s → same_cid (get_or entries i d).cid cid ≡ false
       go false is = is
       go true is =
-          absurd (before-apart (as_spot (get_or entries i d).cid) (as_spot cid) (point.0 i d (omega arith) low)
-          (ap as_spot (cid-same (get_or entries i d).cid cid is)))
+          absurd (cid-apart (get_or entries i d).cid cid (point.0 i d (omega arith) low)
+          (same_cid-is (get_or entries i d).cid cid is))
 
   pub call-at : (entries : List CallSpot) (at : ℕ) (d : CallSpot)
       → IsPartitionPoint (λ e. cid_before e.cid cid ≡ true) (λ e. cid_before e.cid cid ≡ false) entries at
@@ -221,7 +221,7 @@ module _ (cid : Cid) where
           go true is = absurd (at_later (nat_lt at i) refl)
             where
               named : (get_or entries i d).cid ≡ cid
-              named = cid-same (get_or entries i d).cid cid is
+              named = same_cid-is (get_or entries i d).cid cid is
 
               at_later : (s : Bool) → nat_lt at i ≡ s → ⊥
               at_later true less = by_order (entry-holds (get_or entries at d) (get_or entries i d)
@@ -292,7 +292,7 @@ module _ {A : Type 0} (spot_of : A → Spot) (cid_of : A → Cid) where
           → entry_before (entry_of spot_of cid_of x) e ≡ true) items
           (each-map (λ y. is_before (spot_of x) (spot_of y) ≡ true) _ items
           (λ y first of_call. entry-shown (entry_of spot_of cid_of x) (entry_of spot_of cid_of y)
-          (inr (cid-same (cid_of x) cid is ∙ sym (cid-same (cid_of y) cid of_call), first))) order.0))
+          (inr (same_cid-is (cid_of x) cid is ∙ sym (same_cid-is (cid_of y) cid of_call), first))) order.0))
           ∙ sym (ap (option_map (entry_of spot_of cid_of))
           (let here : find (λ y. same_cid (cid_of y) cid) (x ∷ items) ≡ Some x = rw is refl in here))
       go false is rest =

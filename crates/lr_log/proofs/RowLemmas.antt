@@ -14,7 +14,7 @@ use Rattle.lr_base.specs.declared.names.Spot.{Spot}
 use Rattle.lr_log.specs.ItemLaws.{ascends-filter, each-filter, each-map, in_order-inserted}
 use Rattle.lr_log.specs.Items.{NoneAt}
 use Rattle.lr_log.specs.Rows.{AreRows, IsRow, insert_item, together}
-use Rattle.lr_log.specs.SpotLaws.{before-once, before-shown}
+use Rattle.lr_base.specs.NameLaws.{before-once, before-shown}
 
 module _ {A : Type 0} where
   -- what holds of each element of two lists holds of each of both

@@ -11,7 +11,7 @@ use Rattle.lr_base.specs.Rules.{is_before}
 use Rattle.lr_base.specs.declared.names.Spot.{Spot}
 use Rattle.lr_log.specs.Items.{NoneAt}
 use Rattle.lr_log.specs.Rows.{insert_item}
-use Rattle.lr_log.specs.SpotLaws.{before-once, before-trans, behind-shown}
+use Rattle.lr_base.specs.NameLaws.{before-once, before-trans, behind-shown}
 
 module _ {A : Type 0} where
   -- what holds of each element holds of that at an index

@@ -11,7 +11,7 @@ use Rattle.lr_base.specs.declared.names.Spot.{Spot}
 use Rattle.lr_log.specs.ItemLaws.{each-inserted_all, each-map}
 use Rattle.lr_log.specs.Items.{NoneAt}
 use Rattle.lr_log.specs.Rows.{AreFree, insert_item, insert_items, same_spot}
-use Rattle.lr_log.specs.SpotLaws.{before-apart}
+use Rattle.lr_base.specs.NameLaws.{before-apart}
 use Rattle.lr_log.proofs.Entries.{same_spot-apart, same_spot-refl}
 use Rattle.lr_log.proofs.RowLemmas.{filter-all}
 use Rattle.lr_log.proofs.Searches.{each-at}

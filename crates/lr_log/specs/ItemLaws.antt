@@ -15,7 +15,7 @@ use Rattle.lr_base.specs.Rules.{insert_ack, insert_acks, insert_update, insert_u
 use Rattle.lr_base.specs.Rules.{new_updates}
 use Rattle.lr_base.specs.Stamps.{part}
 use Rattle.lr_log.specs.Items.{CanTake, IsFree, IsOrdered, Items, NoneAt, items_of}
-use Rattle.lr_log.specs.SpotLaws.{before-apart, before-trans, behind-shown}
+use Rattle.lr_base.specs.NameLaws.{before-apart, before-trans, behind-shown}
 
 module _ {A : Type 0} where
   -- what holds of everything holds of each element

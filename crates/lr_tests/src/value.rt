@@ -32,7 +32,14 @@ impl Calls {
 }
 
 impl Executed for Calls {
-    ghost known = { λ calls. calls.entries.items };
+    ghost use Rattle.std.specs.Prelude.{Unit};
+    ghost use Rattle.lr_base.specs.Calls.{enter_calls};
+
+    ghost known = { λ calls. enter_calls calls.entries.items [] };
+
+    ghost Kept = { Unit {0} };
+
+    ghost kept = { λ calls. tt };
 
     fn has(&self, cid: Cid) -> bool {
         entry_of(self.entries.as_slice(), cid).is_some()
@@ -44,10 +51,6 @@ impl Executed for Calls {
         }
         self.entries.push((cid, entry))?;
         Ok(())
-    }
-
-    fn leave(&mut self) {
-        let _last = self.entries.pop();
     }
 }
 

@@ -1,14 +1,16 @@
 -- What applying comes to: which updates were executed, and that none that could be was left out.
 use Rattle.std.proofs.Common.{◌≡◌, ◌∙◌, ◌≤◌, ℕ, zero, suc, Bool, true, false, inl, inr, List, [], ◌∷◌, ◌++◌}
 use Rattle.std.proofs.Common.{length, map, take, refl, sym, ap, Option, Some, None, is_some, arith, subst, true≢false}
-use Rattle.std.proofs.Common.{append_assoc, eq-eqb, ◌==◌}
+use Rattle.std.proofs.Common.{◌||◌}
 use Rattle.std.specs.Prelude.{fold, slice_get}
 use Rattle.std.specs.Option.{ForSome}
-use Rattle.std.proofs.lemmas.List.{append-nil}
 use Rattle.lr_base.specs.declared.names.Cid.{Cid}
 use Rattle.lr_base.specs.declared.messages.Known.{Known}
 use Rattle.lr_base.specs.declared.messages.LogUpdate.{LogUpdate}
+use Rattle.lr_base.specs.CallLaws.{some-entered, some-entered_all}
+use Rattle.lr_base.specs.Calls.{enter_call, enter_calls}
 use Rattle.lr_base.specs.Meaning.{Meaning}
+use Rattle.lr_base.specs.NameLaws.{same_cid-self}
 use Rattle.lr_base.specs.Orders.{IsAmong}
 use Rattle.lr_base.specs.Rules.{Progress, apply_one, apply_ready, is_covered, known_of, same_cid, take_ready, waiting}
 use Rattle.lr_base.specs.Stamps.{stamp_le}
@@ -21,35 +23,6 @@ use Rattle.lr_value.proofs.Settled.{found}
 none-known : (o : Option Known) → is_some o ≡ false → o ≡ None
 none-known None is = refl
 none-known (Some known) is = absurd (true≢false is)
-
--- a call that is in a table is in a longer one
-known-stays : (calls more : List (Cid × Known)) (cid : Cid) → is_some (known_of calls cid) ≡ true
-    → is_some (known_of (calls ++ more) cid) ≡ true
-known-stays [] more cid is = absurd (true≢false (sym is))
-known-stays (e ∷ calls) more cid is = go (same_cid cid e.0) refl (known-stays calls more cid)
-  where
-    go : (same : Bool) → same_cid cid e.0 ≡ same
-        → (is_some (known_of calls cid) ≡ true → is_some (known_of (calls ++ more) cid) ≡ true)
-        → is_some (known_of ((e ∷ calls) ++ more) cid) ≡ true
-    go true same rest = rw same refl
-    go false same rest = let is' : is_some (known_of calls cid) ≡ true = rw same at is in rw same (rest is')
-
-same_cid-self : (cid : Cid) → same_cid cid cid ≡ true
-same_cid-self cid =
-    let client : (cid.client == cid.client) ≡ true = eq-eqb cid.client cid.client refl in
-    let seq : (cid.seq == cid.seq) ≡ true = eq-eqb cid.seq cid.seq refl in
-    rw (client, seq) refl
-
--- a call that is entered is in the table
-known-entered : (calls : List (Cid × Known)) (cid : Cid) (known : Known)
-    → is_some (known_of (calls ++ (cid, known) ∷ []) cid) ≡ true
-known-entered [] cid known = rw (same_cid-self cid) refl
-known-entered (e ∷ calls) cid known = go (same_cid cid e.0) refl (known-entered calls cid known)
-  where
-    go : (same : Bool) → same_cid cid e.0 ≡ same → is_some (known_of (calls ++ (cid, known) ∷ []) cid) ≡ true
-        → is_some (known_of ((e ∷ calls) ++ (cid, known) ∷ []) cid) ≡ true
-    go true same rest = rw same refl
-    go false same rest = rw same rest
 
 module _ {Op : Type 0} where
   -- what is among the others is among all
@@ -116,8 +89,9 @@ record Ran {Value Op : Type 0} (m : Meaning Value Op) (todo : List (LogUpdate Op
   ran : List (LogUpdate Op)
   of_them : (k : ℕ) → ForSome (slice_get ran k) (λ u. IsAmong u todo)
   value : q.value ≡ fold m.apply p.value (map (λ u. u.op) ran)
-  entered : q.calls ≡ p.calls ++ map entry_of ran
-  once : (k : ℕ) → ForSome (slice_get ran k) (λ u. known_of (p.calls ++ map entry_of (take k ran)) u.cid ≡ None)
+  entered : q.calls ≡ enter_calls (map entry_of ran) p.calls
+  once : (k : ℕ)
+      → ForSome (slice_get ran k) (λ u. known_of (enter_calls (map entry_of (take k ran)) p.calls) u.cid ≡ None)
 
 module _ {Value Op : Type 0} (m : Meaning Value Op) where
   -- nothing was executed
@@ -126,7 +100,7 @@ module _ {Value Op : Type 0} (m : Meaning Value Op) where
     ran = [];
     of_them = λ k u e. let none : None ≡ Some u = e in cc;
     value = refl;
-    entered = sym (append-nil p.calls);
+    entered = refl;
     once = λ k u e. let none : None ≡ Some u = e in cc;
   }
 
@@ -135,14 +109,13 @@ module _ {Value Op : Type 0} (m : Meaning Value Op) where
       → ((x : LogUpdate Op) → IsAmong x rest → IsAmong x todo) → Ran m rest (apply_one m p u) q → Ran m todo p q
   ran-more todo rest u p q own others later = go (is_some (known_of p.calls u.cid)) refl
     where
-      front : (p' : Progress Value) → p'.value ≡ m.apply p.value u.op → p'.calls ≡ p.calls ++ entry_of u ∷ []
+      front : (p' : Progress Value) → p'.value ≡ m.apply p.value u.op → p'.calls ≡ enter_call (entry_of u) p.calls
           → known_of p.calls u.cid ≡ None → Ran m rest p' q → Ran m todo p q
       front p' value calls new later = record {
         ran = u ∷ later.ran;
         of_them = each;
         value = later.value ∙ ap (λ (v : Value). fold m.apply v (map (λ u. u.op) later.ran)) value;
-        entered = later.entered ∙ ap (λ (l : List (Cid × Known)). l ++ map entry_of later.ran) calls
-            ∙ append_assoc p.calls (entry_of u ∷ []) (map entry_of later.ran);
+        entered = later.entered ∙ ap (enter_calls (map entry_of later.ran)) calls;
         once = alone;
       }
         where
@@ -151,26 +124,24 @@ module _ {Value Op : Type 0} (m : Meaning Value Op) where
           each (suc k) = λ x e. others x (later.of_them k x e)
 
           alone : (k : ℕ) → ForSome (slice_get (u ∷ later.ran) k)
-              (λ x. known_of (p.calls ++ map entry_of (take k (u ∷ later.ran))) x.cid ≡ None)
+              (λ x. known_of (enter_calls (map entry_of (take k (u ∷ later.ran))) p.calls) x.cid ≡ None)
           alone zero = λ x e.
               let same : u ≡ x = cc in
-              subst (λ (y : LogUpdate Op). known_of (p.calls ++ []) y.cid ≡ None) same
-              (ap (λ (l : List (Cid × Known)). known_of l u.cid) (append-nil p.calls) ∙ new)
+              subst (λ (y : LogUpdate Op). known_of p.calls y.cid ≡ None) same new
           alone (suc k) = λ x e.
-              let before : p'.calls ++ map entry_of (take k later.ran)
-              ≡ p.calls ++ entry_of u ∷ map entry_of (take k later.ran) =
-              ap (λ (l : List (Cid × Known)). l ++ map entry_of (take k later.ran)) calls
-              ∙ append_assoc p.calls (entry_of u ∷ []) (map entry_of (take k later.ran)) in
-              ap (λ (l : List (Cid × Known)). known_of l x.cid) (sym before) ∙ later.once k x e
+              ap (λ (l : List (Cid × Known)). known_of (enter_calls (map entry_of (take k later.ran)) l) x.cid)
+              (sym calls)
+              ∙ later.once k x e
 
       known : (p' : Progress Value) → p'.value ≡ p.value → p'.calls ≡ p.calls → Ran m rest p' q → Ran m todo p q
       known p' value calls later = record {
         ran = later.ran;
         of_them = λ k x e. others x (later.of_them k x e);
         value = later.value ∙ ap (λ (v : Value). fold m.apply v (map (λ u. u.op) later.ran)) value;
-        entered = later.entered ∙ ap (λ (l : List (Cid × Known)). l ++ map entry_of later.ran) calls;
+        entered = later.entered ∙ ap (enter_calls (map entry_of later.ran)) calls;
         once = λ k x e.
-            ap (λ (l : List (Cid × Known)). known_of (l ++ map entry_of (take k later.ran)) x.cid) (sym calls)
+            ap (λ (l : List (Cid × Known)). known_of (enter_calls (map entry_of (take k later.ran)) l) x.cid)
+            (sym calls)
             ∙ later.once k x e;
       }
 
@@ -200,7 +171,9 @@ module _ {Value Op : Type 0} (m : Meaning Value Op) where
       go : (was : Bool) → is_some (known_of p.calls u.cid) ≡ was
           → is_some (known_of (apply_one m p u).calls u.cid) ≡ true
       go true is = rw is is
-      go false is = rw is (known-entered p.calls u.cid (entry_of u).1)
+      go false is =
+          let own = same_cid-self u.cid in
+          rw is (some-entered (entry_of u) p.calls u.cid ∙ ap (λ b. b || is_some (known_of p.calls u.cid)) own)
 
   -- with a turn for each that waits, none is left out whose causes are applied
   all-executed : (turns : ℕ) (todo : List (LogUpdate Op)) (p : Progress Value) → length todo ≤ turns
@@ -222,11 +195,11 @@ module _ {Value Op : Type 0} (m : Meaning Value Op) where
           let next = apply_one m p t.0 in
           let last = apply_ready m turns t.1 next in
           let fewer = taken-length p.val_ts todo t is in
-          let entered : last.calls ≡ next.calls ++ map entry_of (ran-all turns t.1 next).ran =
+          let entered : last.calls ≡ enter_calls (map entry_of (ran-all turns t.1 next).ran) next.calls =
           (ran-all turns t.1 next).entered in
           let known : is_some (known_of last.calls t.0.cid) ≡ true =
           rw entered
-          (known-stays next.calls (map entry_of (ran-all turns t.1 next).ran) t.0.cid (one-known p t.0)) in
+          (some-entered_all (map entry_of (ran-all turns t.1 next).ran) next.calls t.0.cid (one-known p t.0)) in
           rw is
           (Each-taken (λ u. stamp_le u.prev last.val_ts ≡ true → is_some (known_of last.calls u.cid) ≡ true)
           p.val_ts todo t is (λ ready. known) (hyp t.1 next (omega arith)))

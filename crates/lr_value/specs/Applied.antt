@@ -1,5 +1,5 @@
 -- What a contract sees of a value with the stamp of what was applied to it, and of applying.
-use Rattle.std.specs.Prelude.{◌≡◌, List, length, take, Option, Some, None}
+use Rattle.std.specs.Prelude.{◌≡◌, List, length, Option, Some, None}
 use Rattle.lr_base.specs.Stamps.{Stamp}
 use Rattle.lr_base.specs.declared.names.Cid.{Cid}
 use Rattle.lr_base.specs.declared.names.Spot.{Spot}
@@ -38,11 +38,9 @@ progress applied calls = progress_at applied.value applied.val_ts calls
 abbrev pub all_ready : {Value Op : Type 0} → Meaning Value Op → List (LogUpdate Op) → Progress Value → Progress Value
 all_ready m updates p = let todo = waiting p.val_ts updates in apply_ready m (length todo) todo p
 
--- applying went on, however far: the stamp has its parts, no call left the table, and stamps of calls have those
--- parts too
+-- applying went on, however far: the stamp has its parts, and stamps of calls have those parts too
 pub record GoesOn {Value : Type 0} (before after : Progress Value) : Type 0 where
   pub parts : length after.val_ts ≡ length before.val_ts
-  pub grown : take (length before.calls) after.calls ≡ before.calls
   pub known : AllKnown (length before.val_ts) before.calls → AllKnown (length before.val_ts) after.calls
 
 -- nothing was applied, or else the older value is that of before, and comes to that of after

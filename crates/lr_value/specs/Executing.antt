@@ -1,6 +1,7 @@
 -- What was executed, said without how applying goes on.
-use Rattle.std.specs.Prelude.{◌≡◌, ℕ, true, false, List, ◌++◌, fold, map, take, None, is_some, slice_get}
+use Rattle.std.specs.Prelude.{◌≡◌, ℕ, true, false, List, fold, map, take, None, is_some, slice_get}
 use Rattle.std.specs.Option.{ForSome}
+use Rattle.lr_base.specs.Calls.{enter_calls}
 use Rattle.lr_base.specs.Kinds.{IsUpdate}
 use Rattle.lr_base.specs.Meaning.{Meaning}
 use Rattle.lr_base.specs.Orders.{IsAmong}
@@ -31,8 +32,8 @@ pub record HasApplied {Value Op : Type 0} (m : Meaning Value Op) (updates : List
   pub ran : List (LogUpdate Op)
   pub logged : (k : ℕ) → ForSome (slice_get ran k) (λ u. IsAmong u updates × (is_covered before.val_ts u ≡ false))
   pub value : after.value ≡ fold m.apply before.value (map (λ u. u.op) ran)
-  pub entered : after.calls ≡ before.calls ++ map entry_of ran
+  pub entered : after.calls ≡ enter_calls (map entry_of ran) before.calls
   pub once : (k : ℕ)
-      → ForSome (slice_get ran k) (λ u. known_of (before.calls ++ map entry_of (take k ran)) u.cid ≡ None)
+      → ForSome (slice_get ran k) (λ u. known_of (enter_calls (map entry_of (take k ran)) before.calls) u.cid ≡ None)
   pub executed : (k : ℕ) → ForSome (slice_get updates k) (λ u. is_covered before.val_ts u ≡ false
       → stamp_le u.prev after.val_ts ≡ true → is_some (known_of after.calls u.cid) ≡ true)

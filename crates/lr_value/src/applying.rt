@@ -1,5 +1,6 @@
 //! Applying logged updates to a value, each call once.
 ghost use Rattle.std.specs.Prelude.{◌≡◌, ◌∷◌, ◌++◌, [], length, None, IfOk, OnOk};
+ghost use Rattle.lr_base.specs.Calls.{enter_call};
 ghost use Rattle.lr_base.specs.Kinds.{IsUpdate};
 ghost use Rattle.lr_base.specs.Logged.{AllLogged, IsLogged};
 ghost use Rattle.lr_base.specs.Rules.{apply_one, apply_ready as rule, known_of};
@@ -31,13 +32,14 @@ fn run_call<S: Service, E: Executed>(
     requires update { IsUpdate (S.Op.kind_of update.now.op) }
     ensures ok { OnOk result (progress_at draft.new.value draft.new.val_ts (E.known calls.new)
         ≡ progress_at (S.meaning.apply draft.old.value update.now.op) draft.old.val_ts
-        (E.known calls.old ++ (update.now.cid, record { spot = update.now.spot; stamp = stamp.now }) ∷ [])) }
+        (enter_call (update.now.cid, record { spot = update.now.spot; stamp = stamp.now }) (E.known calls.old))) }
     ensures since { OnOk result (draft.new.since ≡ draft.old.since ++ update.now.op ∷ []) }
 
     // What stays, also where memory ends.
     ensures goes_on { length stamp.now ≡ length draft.old.val_ts →
         GoesOn (progress_at draft.old.value draft.old.val_ts (E.known calls.old))
         (progress_at draft.new.value draft.new.val_ts (E.known calls.new)) }
+    ensures kept { E.kept calls.new ≡ E.kept calls.old }
 {
     draft.since.note(&update.op)?;
     let known = Known {
@@ -63,6 +65,7 @@ fn execute<S: Service, E: Executed>(
     // What stays, also where memory ends.
     ensures goes_on { GoesOn (progress_at draft.old.value draft.old.val_ts (E.known calls.old))
         (progress_at draft.new.value draft.new.val_ts (E.known calls.new)) }
+    ensures kept { E.kept calls.new ≡ E.kept calls.old }
 {
     let stamp = update.stamp();
     if !calls.has(update.cid) {
@@ -90,6 +93,7 @@ pub(crate) fn apply_all<'a, S: Service, E: Executed>(
     // What stays, also where memory ends.
     ensures goes_on { GoesOn (progress_at draft.old.value draft.old.val_ts (E.known calls.old))
         (progress_at draft.new.value draft.new.val_ts (E.known calls.new)) }
+    ensures kept { E.kept calls.new ≡ E.kept calls.old }
 {
     while let Some(at) = first_ready(waiting.as_slice(), &draft.val_ts) {
         let update = waiting.remove(at);

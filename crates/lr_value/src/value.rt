@@ -121,6 +121,7 @@ impl<S: Service> Value<S> {
         // what stays, also where memory ends
         ensures stays { OnErr result (self.new ≡ self.old)
             × GoesOn (progress self.old (E.known calls.old)) (progress self.new (E.known calls.new)) }
+        ensures kept { E.kept calls.new ≡ E.kept calls.old }
     {
         if self.has_seen(received) {
             return Ok(None);

@@ -5,7 +5,6 @@ pub mod Shaped
 pub mod FrontCalls
 pub mod Reading
 mod RunLemmas
-pub mod SortedCalls
 pub mod Histories
 pub mod Fitting
 pub mod Begun

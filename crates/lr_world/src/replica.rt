@@ -37,7 +37,6 @@ impl<S: Service> Replica<S> {
     ghost use Rattle.lr_base.specs.Config.{IsValid};
     ghost use Rattle.lr_base.specs.Limits.{held_room};
     ghost use Rattle.lr_base.specs.Stamps.{stamp_le};
-    ghost use Rattle.lr_base.specs.Ascending.{ascending};
     ghost use Rattle.lr_base.specs.Replicas.{first_replica, state_line_of};
     ghost use Rattle.lr_base.specs.Rules.{CausalState, fresh_of, gossip_of};
     ghost use Rattle.lr_base.specs.Steps.{call_taken, gossip_given, has_number, has_room, held_acts, own_taken};
@@ -349,12 +348,11 @@ impl<S: Service> Replica<S> {
         Ok(Outcome::State { line })
     }
 
-    // The executed calls, ascending.
+    // The executed calls in their order.
     fn executed_calls(&self) -> Result<Rows<Cid>, NoMemory>
-        ensures { IfOk result (λ cids. cids ≡ ascending (map (λ e. e.0) self.now.causal.calls)) }
+        ensures { IfOk result (λ cids. cids ≡ map (λ e. e.0) self.now.causal.calls) }
     {
-        let mut cids = self.causal.calls().cids(self.allocator())?;
-        cids.sort_unstable();
+        let cids = self.causal.calls().cids(self.allocator())?;
         Rows::from_slice(self.allocator(), cids.as_slice())
     }
 

@@ -2,6 +2,8 @@
 use Rattle.std.proofs.Common.{◌≡◌, ℕ, zero, suc, ◌<◌, ◌≤◌, nat_lt, leb-true, le-leb, Bool, true, false, cond, ◌||◌, ◌⊎◌, inl, inr, List, [], ◌∷◌, ◌++◌, Some, None, is_some, refl, sym, ap, ◌∙◌, subst, true≢false, arith}
 use Rattle.std.proofs.lemmas.Bool.{lt-ltb}
 use Rattle.std.specs.Option.{option_or}
+use Rattle.lr_base.specs.CallLaws.{some-entered}
+use Rattle.lr_base.specs.Calls.{enter_call}
 use Rattle.lr_base.specs.Meaning.{Meaning}
 use Rattle.lr_base.specs.Orders.{IsAmong}
 use Rattle.lr_base.specs.Rules.{Progress, apply_one, is_before, known_of, same_cid, stamp_of}
@@ -18,7 +20,7 @@ use Rattle.lr_graph.specs.Sets.{SpotSet, only, same_spot, ◌∪◌}
 use Rattle.lr_graph.proofs.Sets.KeptSpots.{IsFirst, least_spot-first, spot_to_keep}
 use Rattle.lr_graph.proofs.Lists.Members.{each-at, each-from, each-map}
 use Rattle.lr_graph.proofs.Sets.ReadySets.{apart-same, below-accepted, below-parts, causes-accepted, holds-ready, names-join, ready-closed, ready-received, self-below, update-stamp}
-use Rattle.lr_graph.proofs.Applying.Taking.{IsTaken, known_of-either, known_of-more}
+use Rattle.lr_graph.proofs.Applying.Taking.{IsTaken, known_of-either}
 use Rattle.lr_graph.proofs.Lists.Tests.{and-intro, and-right, never, or-cases, or-false, or-false_left, or-false_right, or-left, or-right, same_cid-is, same_spot-is, same_spot-self}
 use Rattle.lr_graph.proofs.Related.Ties.{HasOneCall, HasUpdateAt, IsAscending, IsUpdateOf, StandsFor}
 use Rattle.lr_graph.proofs.Sets.Values.{Commute, CommutesWithNewer, commutes-newer, has_call-more, has_call-wider, holds-has_call, value-again, value-new}
@@ -106,13 +108,13 @@ module _ {Op : Type 0} (l : List (Acceptance Op)) (r applied : SpotSet) (kept : 
 
   -- a call that isn't known is entered, at the spot that is kept of it
   table-new : (u : LogUpdate Op) → StandsFor l u a → Names (stamp_of u) a.below → spot_to_keep l (ready l r) kept a.cid ≡ Some a.spot
-      → IsTableSoFar l r (applied ∪ only a.spot) kept (calls ++ (u.cid, record { spot = u.spot; stamp = stamp_of u }) ∷ [])
+      → IsTableSoFar l r (applied ∪ only a.spot) kept (enter_call (u.cid, record { spot = u.spot; stamp = stamp_of u }) calls)
   table-new u stands stamp keeps = record {
     spots = λ cid k h. elim (known_of-either calls u.cid _ cid k h) [
       | inl before ↦ t.spots cid k before
       | inr new ↦ ap (spot_to_keep l (ready l r) kept) (new.0 ∙ stands.cid) ∙ keeps ∙ ap Some (sym stands.spot) ∙ ap (λ (j : Known). Some j.spot) new.1
     ];
-    known = λ cid. known_of-more calls u.cid _ cid ∙ (λ i. same_cid cid (stands.cid i) || t.known cid i) ∙ sym (has_call-more l applied a apart member cid);
+    known = λ cid. some-entered _ calls cid ∙ (λ i. same_cid cid (stands.cid i) || t.known cid i) ∙ sym (has_call-more l applied a apart member cid);
     stamps = λ cid k h. elim (known_of-either calls u.cid _ cid k h) [
       | inl before ↦ t.stamps cid k before
       | inr new ↦ (a, member, ap (λ (j : Known). j.spot) (sym new.1) ∙ stands.spot, sym (new.0 ∙ stands.cid), subst (λ (j : Known). Names j.stamp a.below) new.1 stamp)
@@ -204,7 +206,7 @@ settling-step {Value} {Op} m l r done kept sound one_call commute unkept todo p 
 
     by_known : (t : Bool) → is_some (known_of p.calls u.cid) ≡ t → Settling m l r done kept rest
         (cond {A = Progress Value} t (record p { val_ts = join p.val_ts (stamp_of u) })
-        (record { value = m.apply p.value u.op; val_ts = join p.val_ts (stamp_of u); calls = p.calls ++ (u.cid, record { spot = u.spot; stamp = stamp_of u }) ∷ [] }))
+        (record { value = m.apply p.value u.op; val_ts = join p.val_ts (stamp_of u); calls = enter_call (u.cid, record { spot = u.spot; stamp = stamp_of u }) p.calls }))
         (applied ∪ only a.spot) (named ∪ a.below)
     by_known true e = record {
       waiting = waits;

@@ -3,6 +3,8 @@ use Rattle.std.proofs.Common.{◌≡◌, ℕ, suc, Bool, true, false, cond, ◌|
 use Rattle.std.proofs.lemmas.Option.{none-some}
 use Rattle.std.specs.Option.{option_map}
 use Rattle.lr_base.specs.Orders.{IsAmong}
+use Rattle.lr_base.specs.CallLaws.{known_of-entered}
+use Rattle.lr_base.specs.Calls.{enter_call}
 use Rattle.lr_base.specs.Rules.{is_before, known_of, same_cid, take_ready}
 use Rattle.lr_base.specs.Stamps.{stamp_le}
 use Rattle.lr_base.specs.declared.messages.Known.{Known}
@@ -121,50 +123,13 @@ module _ {Op : Type 0} (val_ts : List ℕ) where
           by_other None e = refl
           by_other (Some other) e = absurd (none-some (other.0, v ∷ other.1) (sym e))
 
--- ---- a longer table of executed calls
-
--- what is known of a call stays known
-pub known_of-before : (calls more : List (Cid × Known)) (cid : Cid) (k : Known) → known_of calls cid ≡ Some k → known_of (calls ++ more) cid ≡ Some k
-known_of-before [] more cid k e = absurd (none-some _ e)
-known_of-before (c ∷ calls) more cid k e = at_first (same_cid cid c.0) e (known_of-before calls more cid k)
-  where
-    at_first : (t : Bool) → cond t (Some c.1) (known_of calls cid) ≡ Some k → (known_of calls cid ≡ Some k → known_of (calls ++ more) cid ≡ Some k)
-        → cond t (Some c.1) (known_of (calls ++ more) cid) ≡ Some k
-    at_first true e rest = e
-    at_first false e rest = rest e
-
--- of a call that wasn't known the new entry may be
-pub known_of-behind : (calls more : List (Cid × Known)) (cid : Cid) → known_of calls cid ≡ None → known_of (calls ++ more) cid ≡ known_of more cid
-known_of-behind [] more cid e = refl
-known_of-behind (c ∷ calls) more cid e = at_first (same_cid cid c.0) e (known_of-behind calls more cid)
-  where
-    at_first : (t : Bool) → cond t (Some c.1) (known_of calls cid) ≡ None → (known_of calls cid ≡ None → known_of (calls ++ more) cid ≡ known_of more cid)
-        → cond t (Some c.1) (known_of (calls ++ more) cid) ≡ known_of more cid
-    at_first true e rest = absurd (none-some _ (sym e))
-    at_first false e rest = rest e
-
--- a call is known in a table with one more entry where it was known or is the entry's
-pub known_of-more : (calls : List (Cid × Known)) (entered : Cid) (k : Known) (cid : Cid)
-    → is_some (known_of (calls ++ (entered, k) ∷ []) cid) ≡ (same_cid cid entered || is_some (known_of calls cid))
-known_of-more calls entered k cid = by_known (known_of calls cid) refl
-  where
-    entry : (t : Bool) → is_some (cond t (Some k) None) ≡ (t || false)
-    entry true = refl
-    entry false = refl
-
-    by_known : (o : Option Known) → known_of calls cid ≡ o → is_some (known_of (calls ++ (entered, k) ∷ []) cid) ≡ (same_cid cid entered || is_some o)
-    by_known (Some j) e = ap is_some (known_of-before calls _ cid j e) ∙ sym (or-right (same_cid cid entered) true refl)
-    by_known None e = ap is_some (known_of-behind calls _ cid e) ∙ entry (same_cid cid entered)
+-- ---- a table with one more executed call
 
 -- what is known of a call there was known of it before, or is the new entry
-pub known_of-either : (calls : List (Cid × Known)) (entered : Cid) (k : Known) (cid : Cid) (j : Known) → known_of (calls ++ (entered, k) ∷ []) cid ≡ Some j
+pub known_of-either : (calls : List (Cid × Known)) (entered : Cid) (k : Known) (cid : Cid) (j : Known) → known_of (enter_call (entered, k) calls) cid ≡ Some j
     → (known_of calls cid ≡ Some j) ⊎ ((cid ≡ entered) × (k ≡ j))
-known_of-either calls entered k cid j h = by_known (known_of calls cid) refl
+known_of-either calls entered k cid j h = entry (same_cid cid entered) refl (sym (known_of-entered (entered, k) calls cid) ∙ h)
   where
-    entry : (t : Bool) → same_cid cid entered ≡ t → cond t (Some k) None ≡ Some j → (cid ≡ entered) × (k ≡ j)
-    entry true e q = let is : k ≡ j = cc in (same_cid-is cid entered e, is)
-    entry false e q = absurd (none-some _ q)
-
-    by_known : (o : Option Known) → known_of calls cid ≡ o → (o ≡ Some j) ⊎ ((cid ≡ entered) × (k ≡ j))
-    by_known (Some i) e = inl (sym (known_of-before calls _ cid i e) ∙ h)
-    by_known None e = inr (entry (same_cid cid entered) refl (sym (known_of-behind calls _ cid e) ∙ h))
+    entry : (t : Bool) → same_cid cid entered ≡ t → cond t (Some k) (known_of calls cid) ≡ Some j → (known_of calls cid ≡ Some j) ⊎ ((cid ≡ entered) × (k ≡ j))
+    entry true e q = let is : k ≡ j = cc in inr (same_cid-is cid entered e, is)
+    entry false e q = inl q

@@ -2,6 +2,7 @@
 use Rattle.std.proofs.Common.{◌≡◌, ◌<◌, ◌≤◌, ◌+◌, ◌==◌, ℕ, true, false, List, [], ◌∷◌, length, find, Option, Some, None}
 use Rattle.std.specs.List.{slice_get}
 use Rattle.std.specs.Option.{option_map}
+use Rattle.lr_base.specs.Calls.{AreByCall}
 use Rattle.lr_base.specs.Fronts.{FrontState}
 use Rattle.lr_base.specs.Kinds.{IsUpdate, has_rules}
 use Rattle.lr_base.specs.Meaning.{Meaning}
@@ -147,18 +148,13 @@ pub record IsShared {Value Op : Type 0} (m : Meaning Value Op) (config : Config)
 
 -- ---- replicas
 
--- no call is in the table twice
-abbrev pub HasApartKeys : List (Cid × Known) → Type 0
-HasApartKeys [] = Unit {0}
-HasApartKeys (e ∷ calls) = Each (λ other. same_cid e.0 other.0 ≡ false) calls × HasApartKeys calls
-
 -- what no causal update changes
 pub record IsStill {Value Op : Type 0} (config : Config) (state : CausalState Value Op) : Type 0 where
   pub clock : state.clock ≡ 0
   pub acks : state.acks ≡ []
   pub imm : (place : ℕ) → part state.imm_ts place ≡ 0
   pub parts : length state.rep_ts ≡ config.replicas + 1
-  pub keys : HasApartKeys state.calls
+  pub keys : AreByCall state.calls
 
 -- a held query, of a client that there is
 pub record SameHeld {Op : Type 0} (clients : ℕ) (l : List (Acceptance Op)) (c : LabelledCall Op) (d : Call Op) : Type 0 where

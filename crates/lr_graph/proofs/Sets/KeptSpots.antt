@@ -10,7 +10,7 @@ use Rattle.lr_base.specs.declared.names.Spot.{Spot}
 use Rattle.lr_graph.specs.Graph.{Acceptance, Kept, has_call, keep_new, keep_one, kept_spot, least_spot}
 use Rattle.lr_graph.specs.Sets.{SpotSet, lesser}
 use Rattle.lr_graph.proofs.Lists.Members.{among-list_any}
-use Rattle.lr_graph.proofs.Lists.Tests.{and-intro, and-left, and-right, never, is_before-once, same_cid-is, same_cid-self}
+use Rattle.lr_graph.proofs.Lists.Tests.{and-intro, and-left, and-right, never, before-once, same_cid-is, same_cid-self}
 use Rattle.lr_graph.proofs.Sets.Values.{has_call-holds, holds-has_call}
 
 -- ---- the least spot of a call
@@ -84,7 +84,7 @@ module _ {Op : Type 0} where
               chosen : (t : Bool) → cond t b.spot a.spot ≡ a.spot
               chosen true = one
               chosen false = refl
-          by_order (inr before) = ap (λ t. Some (cond t b.spot a.spot)) (is_before-once a.spot b.spot before)
+          by_order (inr before) = ap (λ t. Some (cond t b.spot a.spot)) (before-once a.spot b.spot before)
 
 -- ---- the spots that are kept
 

@@ -1,8 +1,11 @@
 -- The executed calls that a state line lists, in the graph and by the rules.
-use Rattle.std.proofs.Common.{◌≡◌, Bool, true, false, cond, not, ◌⊎◌, inl, inr, List, [], ◌∷◌, map, Some, None, is_some, refl, sym, ap, ◌∙◌, true≢false}
-use Rattle.lr_base.specs.Ascending.{ascending, cid_before, cid_up_to, insert_cid}
+use Rattle.std.proofs.Common.{◌≡◌, Bool, true, false, cond, not, ◌⊎◌, inl, inr, List, [], ◌∷◌, map, Some, None, is_some, refl, sym, ap, ◌∙◌, true≢false, arith}
+use Rattle.std.proofs.lemmas.Bool.Decides.{nat_tests}
+use Rattle.lr_base.specs.Ascending.{cid_before}
+use Rattle.lr_base.specs.Calls.{AreByCall}
 use Rattle.lr_base.specs.Orders.{IsAmong}
 use Rattle.lr_base.specs.InsertionLaws.{among-inserted, ascends-inserted, each-inserted}
+use Rattle.lr_base.specs.NameLaws.{cid-apart, cid-neither, cid-trans, same_cid-is, same_cid-self}
 use Rattle.lr_base.specs.Rules.{known_of, same_cid}
 use Rattle.lr_base.specs.declared.messages.Known.{Known}
 use Rattle.lr_base.specs.declared.names.Cid.{Cid}
@@ -13,62 +16,26 @@ use Rattle.lr_graph.specs.Names.{spot_at}
 use Rattle.lr_graph.specs.Sets.{SpotSet, insert_call}
 use Rattle.lr_graph.proofs.Lists.Ascents.{Ascends, same-ascents}
 use Rattle.lr_graph.proofs.Lists.Members.{each-at, each-from, each-map}
-use Rattle.lr_graph.proofs.Logs.Orders.{before-apart, before-total, before-trans}
-use Rattle.lr_graph.proofs.Related.Relation.{HasApartKeys}
-use Rattle.lr_graph.proofs.Lists.Tests.{same_cid-is, same_cid-self}
 use Rattle.lr_graph.proofs.Sets.Values.{has_call-holds, holds-has_call}
-
--- calls are in the order of spots with the client for the place
-abbrev as_spot : Cid → Spot
-as_spot cid = spot_at cid.client cid.seq
-
-cid-apart : (a b : Cid) → cid_before a b ≡ true → a ≡ b → ⊥
-cid-apart a b e same = before-apart (as_spot a) (as_spot b) e (ap as_spot same)
-
-cid-trans : (a b c : Cid) → cid_before a b ≡ true → cid_before b c ≡ true → cid_before a c ≡ true
-cid-trans a b c f g = before-trans (as_spot a) (as_spot b) (as_spot c) f g
-
-cid-total : (a b : Cid) → (a ≡ b → ⊥) → cid_before a b ≡ false → cid_before b a ≡ true
-cid-total a b apart out = before-total (as_spot a) (as_spot b) (λ same. apart (λ i. record { client = (same i).place; seq = (same i).number })) out
 
 -- ---- by the rules
 
-module _ (cid : Cid) where
-  each-insert_cid : (P : Cid → Type 0) (cids : List Cid) → P cid → Each P cids → Each P (insert_cid cid cids)
-  each-insert_cid P cids own all = each-inserted (λ x y. false) cid_up_to cid P cids own all
-
-  among-insert_cid : (y : Cid) (cids : List Cid) → (y ≡ cid) ⊎ IsAmong y cids → IsAmong y (insert_cid cid cids)
-  among-insert_cid y cids either = among-inserted (λ x y. false) cid_up_to cid (λ x no. absurd (true≢false (sym no))) y cids either
-
-  ascends-insert_cid : (cids : List Cid) → Each (λ x. cid ≡ x → ⊥) cids → Ascends cid_before cids → Ascends cid_before (insert_cid cid cids)
-  ascends-insert_cid cids apart h =
-      ascends-inserted (λ x y. false) cid_up_to cid cid_before (cid-trans cid) cids
-      (each-map _ _ cids (λ x out t no goes. by_test x out t goes (cid_before x cid) refl) apart) h
-    where
-      by_test : (x : Cid) → (cid ≡ x → ⊥) → (t : Bool) → cid_up_to cid x ≡ t → (s : Bool) → cid_before x cid ≡ s → cond t (cid_before cid x) (cid_before x cid) ≡ true
-      by_test x out true goes true e = let no : false ≡ true = sym (ap not e) ∙ goes in absurd (true≢false (sym no))
-      by_test x out true goes false e = cid-total x cid (λ same. out (sym same)) e
-      by_test x out false goes true e = e
-      by_test x out false goes false e = let no : true ≡ false = sym (ap not e) ∙ goes in absurd (true≢false no)
-
-each-keys : (P : Cid → Type 0) (calls : List (Cid × Known)) → Each (λ e. P e.0) calls → Each P (ascending (map (λ e. e.0) calls))
+each-keys : (P : Cid → Type 0) (calls : List (Cid × Known)) → Each (λ e. P e.0) calls → Each P (map (λ e. e.0) calls)
 each-keys P [] h = tt
-each-keys P (e ∷ calls) h = each-insert_cid e.0 P (ascending (map (λ e. e.0) calls)) h.0 (each-keys P calls h.1)
+each-keys P (e ∷ calls) h = (h.0, each-keys P calls h.1)
 
-ascends-keys : (calls : List (Cid × Known)) → HasApartKeys calls → Ascends cid_before (ascending (map (λ e. e.0) calls))
+ascends-keys : (calls : List (Cid × Known)) → AreByCall calls → Ascends cid_before (map (λ e. e.0) calls)
 ascends-keys [] h = tt
-ascends-keys (e ∷ calls) h =
-    ascends-insert_cid e.0 (ascending (map (λ e. e.0) calls)) (each-keys (λ x. e.0 ≡ x → ⊥) calls (each-map _ _ calls (λ f out same. true≢false (sym (ap (same_cid e.0) (sym same) ∙ same_cid-self e.0) ∙ out)) h.0))
-    (ascends-keys calls h.1)
+ascends-keys (e ∷ calls) h = (each-keys (λ c. cid_before e.0 c ≡ true) calls h.0, ascends-keys calls h.1)
 
-among-keys : (calls : List (Cid × Known)) (cid : Cid) → is_some (known_of calls cid) ≡ true → IsAmong cid (ascending (map (λ e. e.0) calls))
+among-keys : (calls : List (Cid × Known)) (cid : Cid) → is_some (known_of calls cid) ≡ true → IsAmong cid (map (λ e. e.0) calls)
 among-keys [] cid e = absurd (true≢false (sym e))
 among-keys (f ∷ calls) cid e = at_head (same_cid cid f.0) refl e (among-keys calls cid)
   where
-    at_head : (t : Bool) → same_cid cid f.0 ≡ t → is_some (cond t (Some f.1) (known_of calls cid)) ≡ true → (is_some (known_of calls cid) ≡ true → IsAmong cid (ascending (map (λ e. e.0) calls)))
-        → IsAmong cid (insert_cid f.0 (ascending (map (λ e. e.0) calls)))
-    at_head true q e rest = among-insert_cid f.0 cid (ascending (map (λ e. e.0) calls)) (inl (same_cid-is cid f.0 q))
-    at_head false q e rest = among-insert_cid f.0 cid (ascending (map (λ e. e.0) calls)) (inr (rest e))
+    at_head : (t : Bool) → same_cid cid f.0 ≡ t → is_some (cond t (Some f.1) (known_of calls cid)) ≡ true → (is_some (known_of calls cid) ≡ true → IsAmong cid (map (λ e. e.0) calls))
+        → IsAmong cid (f.0 ∷ map (λ e. e.0) calls)
+    at_head true q e rest = inl (same_cid-is cid f.0 q)
+    at_head false q e rest = inr (rest e)
 
 -- a call of the table is known
 each-known : (calls more : List (Cid × Known)) → ((cid : Cid) → is_some (known_of calls cid) ≡ true → is_some (known_of more cid) ≡ true) → Each (λ e. is_some (known_of more e.0) ≡ true) calls
@@ -94,7 +61,7 @@ module _ (cid : Cid) where
     where
       by_test : (x : Cid) (t : Bool) → same_cid cid x ≡ false → cid_before cid x ≡ t → cond t (cid_before cid x) (cid_before x cid) ≡ true
       by_test x true other e = e
-      by_test x false other e = cid-total cid x (λ same. true≢false (sym (ap (same_cid cid) (sym same) ∙ same_cid-self cid) ∙ other)) e
+      by_test x false other e = grind (arith, nat_tests)
 
 module _ {Op : Type 0} where
   each-calls_of : (P : Cid → Type 0) (l : List (Acceptance Op)) (x : SpotSet) → Each (λ a. x a.spot ≡ true → P a.cid) l → Each P (calls_of l x)
@@ -127,13 +94,13 @@ module _ {Op : Type 0} where
       at_head false rest = rest
 
   -- a table with the calls of a set is listed as the set's calls are
-  pub calls-table : (l : List (Acceptance Op)) (x : SpotSet) (calls : List (Cid × Known)) → HasApartKeys calls → ((cid : Cid) → is_some (known_of calls cid) ≡ has_call l x cid)
-      → calls_of l x ≡ ascending (map (λ e. e.0) calls)
+  pub calls-table : (l : List (Acceptance Op)) (x : SpotSet) (calls : List (Cid × Known)) → AreByCall calls → ((cid : Cid) → is_some (known_of calls cid) ≡ has_call l x cid)
+      → calls_of l x ≡ map (λ e. e.0) calls
   calls-table l x calls apart known =
-      same-ascents cid_before cid-apart cid-trans (calls_of l x) (ascending (map (λ e. e.0) calls)) (ascends-calls_of l x) (ascends-keys calls apart)
-      (λ cid member. each-at _ cid (calls_of l x) (each-calls_of (λ c. IsAmong c (ascending (map (λ e. e.0) calls))) l x
+      same-ascents cid_before cid-apart cid-trans (calls_of l x) (map (λ e. e.0) calls) (ascends-calls_of l x) (ascends-keys calls apart)
+      (λ cid member. each-at _ cid (calls_of l x) (each-calls_of (λ c. IsAmong c (map (λ e. e.0) calls)) l x
       (Rattle.lr_graph.proofs.Lists.Members.each-from _ l (λ a in_l here. among-keys calls a.cid (known a.cid ∙ holds-has_call l x a.cid a in_l here refl)))) member)
-      (λ cid member. each-at _ cid (ascending (map (λ e. e.0) calls)) (each-keys (λ c. IsAmong c (calls_of l x)) calls
+      (λ cid member. each-at _ cid (map (λ e. e.0) calls) (each-keys (λ c. IsAmong c (calls_of l x)) calls
       (each-map _ _ calls (λ e h. back e.0 (has_call-holds l x e.0 (sym (known e.0) ∙ h))) (each-known calls calls (λ c h. h)))) member)
     where
       back : (cid : Cid) → (a : Acceptance Op) × IsAmong a l × (x a.spot ≡ true) × (a.cid ≡ cid) → IsAmong cid (calls_of l x)

@@ -10,7 +10,7 @@ use Rattle.lr_graph.specs.Graph.{Acceptance, size_of, spots_of}
 use Rattle.lr_graph.specs.Sets.{SpotSet, insert_spot, same_spot}
 use Rattle.lr_graph.proofs.Lists.Ascents.{Ascends, same-ascents}
 use Rattle.lr_graph.proofs.Lists.Members.{each-at, each-map}
-use Rattle.lr_graph.proofs.Logs.Orders.{before-apart, before-total, before-trans}
+use Rattle.lr_graph.proofs.Logs.Orders.{before-apart, before-trans, behind-shown}
 use Rattle.lr_graph.proofs.Lists.Tests.{same_spot-self}
 use Rattle.lr_graph.proofs.Related.Ties.{HasUpdateAt, IsAscending, IsLogOf}
 
@@ -29,7 +29,7 @@ module _ (spot : Spot) where
     where
       by_test : (x : Spot) → (spot ≡ x → ⊥) → (t : Bool) → is_before spot x ≡ t → cond t (is_before spot x) (is_before x spot) ≡ true
       by_test x out true e = e
-      by_test x out false e = before-total spot x out e
+      by_test x out false e = behind-shown spot x out e
 
 module _ {Op : Type 0} where
   -- each listed spot is that of an acceptance of the set

@@ -20,6 +20,7 @@ loop-at-init g c = record {
   leads = λ from e. e;
   left = left-all c.args.draft.now.val_ts (behind c.args.waiting.items);
   goes_on = stays (progress_at c.args.draft.now.value c.args.draft.now.val_ts (g.E.Executed.known c.args.calls.now));
+  kept = refl;
   logged = c.requires;
 }
 
@@ -65,6 +66,7 @@ loop-at-preserved g c =
           (behind c.remove-update.new.self.items) c.in-Some.at c.remove-update.result.now here
           (ap behind c.remove-update.ensures.items ∙ behind-remove items c.in-Some.at) grown covered old.left;
       goes_on = goes_further first p next old.goes_on c.in_ok-execute.ensures.goes_on;
+      kept = c.in_ok-execute.ensures.kept ∙ old.kept;
       logged =
           AllLogged-behind g.S.Op.Operation.kind_of _ items _ c.in-Some.at c.remove-update.ensures.items old.logged;
     }

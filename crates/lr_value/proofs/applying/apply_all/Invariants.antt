@@ -18,6 +18,7 @@ invariant-loop-at g l =
       leads : LeadsOn m l.initial.draft.since l.initial.draft.value l.draft.since l.draft.value;
       left : AreLeft l.draft.val_ts (behind l.initial.waiting.items) (behind l.waiting.items);
       goes_on : GoesOn first now;
+      kept : g.E.Executed.kept l.calls ≡ g.E.Executed.kept l.initial.calls;
       logged : AllLogged g.S.Op.Operation.kind_of (length l.initial.draft.val_ts) (behind l.waiting.items);
     }
 

@@ -1,5 +1,4 @@
-use Rattle.std.proofs.Common.{length, take, ap, ◌∙◌, refl}
-use Rattle.std.proofs.Math.Seq.{take-append_seam}
+use Rattle.std.proofs.Common.{length, ap, ◌∙◌, refl}
 use Rattle.lr_value.proofs.Tables.{AllKnown-entered}
 use Rattle.lr_value.proofs.applying.run_call.Goals as goal
 
@@ -8,7 +7,6 @@ returns-clause-goes_on g c long =
     let calls = g.E.Executed.known c.args.calls.now in
     record {
       parts = refl;
-      grown = ap (take (length calls)) c.in_ok-enter.ensures.ok ∙ take-append_seam calls _;
       known = AllKnown-entered _ calls (g.E.Executed.known c.enter.new.self) c.args.update.now.cid _
           c.in_ok-enter.ensures.ok (ap length c.copy.ensures ∙ long);
     }

@@ -1,13 +1,14 @@
-use Rattle.std.proofs.Common.{◌≡◌, ◌∙◌, ap, refl, subst, sym}
+use Rattle.std.proofs.Common.{◌≡◌, ◌∙◌, ◌+◌, ap, length, refl, subst, sym, Some}
 use Rattle.lr_base.specs.Logged.{AllKnown}
 use Rattle.lr_value.specs.Applied.{IsOlderOf, progress}
 use Rattle.lr_value.specs.Remembered.{Remembers}
 use Rattle.lr_causal.specs.Causal.{HasSeen, NoneApplied}
+use Rattle.lr_causal.specs.Savepoint.{Saved, kept_first}
 use Rattle.lr_causal.specs.State.{state_of}
+use Rattle.lr_causal.specs.Tables.{without}
 use Rattle.lr_causal.proofs.Facts.{AllLogged-along}
 use Rattle.lr_causal.proofs.Points.{point-applied}
 use Rattle.lr_causal.proofs.Remembering.{HasSeen-looked}
-use Rattle.lr_causal.proofs.Tables.{AllKnown-take}
 use Rattle.lr_causal.proofs.causal.Causal.apply.Goals as goal
 
 pub apply_ready-requires : goal.apply_ready-requires
@@ -22,38 +23,38 @@ apply_ready-requires g c =
 -- ---- where there is no memory
 
 pub invariant_of-self-clause-val_parts : goal.invariant_of-self-clause-val_parts
-invariant_of-self-clause-val_parts g c = c.apply_ready.ensures.stays.1.parts ∙ c.args.self.now.val_parts
+invariant_of-self-clause-val_parts g c =
+    let it = c.args.self.now in
+    subst (λ v. length v.val_ts ≡ it.config.replicas + 1) (sym c.in_default.ensures.err.0) it.val_parts
 
 pub invariant_of-self-clause-known : goal.invariant_of-self-clause-known
 invariant_of-self-clause-known g c =
     let it = c.args.self.now in
-    AllKnown-take _ c.len-count.result c.apply_ready.new.calls c.cut.new.self c.cut.ensures
-    (subst (λ n. AllKnown n c.apply_ready.new.calls) it.val_parts
-    (c.apply_ready.ensures.stays.1.known (subst (λ n. AllKnown n it.calls) (sym it.val_parts) it.known)))
+    subst (λ calls. AllKnown (it.config.replicas + 1) calls) (sym c.in_default.ensures.err.1) it.known
 
 pub invariant_of-self-clause-remembers : goal.invariant_of-self-clause-remembers
 invariant_of-self-clause-remembers g c =
-    let it = c.args.self.now in subst (λ v. Remembers v it.log.updates) (sym c.in_default.ensures.stays.0) it.remembers
+    let it = c.args.self.now in subst (λ v. Remembers v it.log.updates) (sym c.in_default.ensures.err.0) it.remembers
 
 pub invariant_of-self-clause-seen : goal.invariant_of-self-clause-seen
 invariant_of-self-clause-seen g c =
-    let it = c.args.self.now in subst (λ v. HasSeen it.rep_ts v.memory) (sym c.in_default.ensures.stays.0) it.seen
+    let it = c.args.self.now in subst (λ v. HasSeen it.rep_ts v.memory) (sym c.in_default.ensures.err.0) it.seen
 
 pub invariant_of-self-clause-waits : goal.invariant_of-self-clause-waits
 invariant_of-self-clause-waits g c known =
     let it = c.args.self.now in
-    subst (λ v. NoneApplied v.val_ts it.held.items) (sym c.in_default.ensures.stays.0) (it.waits known)
+    subst (λ v. NoneApplied v.val_ts it.held.items) (sym c.in_default.ensures.err.0) (it.waits known)
 
 -- ---- where something is applied
 
 pub invariant_of-self-in-Some-clause-val_parts : goal.invariant_of-self-in-Some-clause-val_parts
-invariant_of-self-in-Some-clause-val_parts g c = c.apply_ready.ensures.stays.1.parts ∙ c.args.self.now.val_parts
+invariant_of-self-in-Some-clause-val_parts g c = c.in-Ok.ensures.goes_on.parts ∙ c.args.self.now.val_parts
 
 pub invariant_of-self-in-Some-clause-known : goal.invariant_of-self-in-Some-clause-known
 invariant_of-self-in-Some-clause-known g c =
     let it = c.args.self.now in
     subst (λ n. AllKnown n c.apply_ready.new.calls) it.val_parts
-    (c.apply_ready.ensures.stays.1.known (subst (λ n. AllKnown n it.calls) (sym it.val_parts) it.known))
+    (c.in-Ok.ensures.goes_on.known (subst (λ n. AllKnown n it.calls) (sym it.val_parts) it.known))
 
 pub invariant_of-self-in-Some-clause-remembers : goal.invariant_of-self-in-Some-clause-remembers
 invariant_of-self-in-Some-clause-remembers g c = c.in-Ok.ensures.settled.remembers
@@ -61,18 +62,32 @@ invariant_of-self-in-Some-clause-remembers g c = c.in-Ok.ensures.settled.remembe
 pub invariant_of-self-in-Some-clause-seen : goal.invariant_of-self-in-Some-clause-seen
 invariant_of-self-in-Some-clause-seen g c =
     let it = c.args.self.now in
-    HasSeen-looked it.rep_ts it.rep_ts c.apply_ready.new.self.memory refl c.in-Ok.ensures.settled.looked
+    HasSeen-looked it.rep_ts it.rep_ts c.apply_ready.new.value.memory refl c.in-Ok.ensures.settled.looked
+
+pub returns-in-Some-clause-point : goal.returns-in-Some-clause-point
+returns-in-Some-clause-point g c before point =
+    let it = c.args.self.now in
+    let lags = subst (IsOlderOf (progress it.value it.calls) (progress c.apply_ready.new.value c.apply_ready.new.calls))
+    c.in-Some.is c.in-Ok.ensures.older in
+    let keeps = c.keep.ensures
+    ∙ ap (λ (p : Saved _). record p {
+      entered = c.apply_ready.new.entered.items;
+      applied = Some (kept_first p.applied c.in-Some.older);
+    }) c.point.view_is in
+    let undo = c.in-Ok.ensures.undo ∙ ap (λ (p : Saved _). without p.entered it.calls) c.point.view_is in
+    point-applied c.args.point.now c.keep.new.self (state_of it) before c.in-Some.older c.apply_ready.new.value
+    c.apply_ready.new.calls c.apply_ready.new.entered.items keeps lags undo (it.val_parts ∙ sym it.rep_parts) point
 
 -- ---- where nothing is
 
 pub invariant_of-self-in_default-older-clause-val_parts : goal.invariant_of-self-in_default-older-clause-val_parts
-invariant_of-self-in_default-older-clause-val_parts g c = c.apply_ready.ensures.stays.1.parts ∙ c.args.self.now.val_parts
+invariant_of-self-in_default-older-clause-val_parts g c = c.in-Ok.ensures.goes_on.parts ∙ c.args.self.now.val_parts
 
 pub invariant_of-self-in_default-older-clause-known : goal.invariant_of-self-in_default-older-clause-known
 invariant_of-self-in_default-older-clause-known g c =
     let it = c.args.self.now in
     subst (λ n. AllKnown n c.apply_ready.new.calls) it.val_parts
-    (c.apply_ready.ensures.stays.1.known (subst (λ n. AllKnown n it.calls) (sym it.val_parts) it.known))
+    (c.in-Ok.ensures.goes_on.known (subst (λ n. AllKnown n it.calls) (sym it.val_parts) it.known))
 
 pub invariant_of-self-in_default-older-clause-remembers : goal.invariant_of-self-in_default-older-clause-remembers
 invariant_of-self-in_default-older-clause-remembers g c = c.in-Ok.ensures.settled.remembers
@@ -80,11 +95,11 @@ invariant_of-self-in_default-older-clause-remembers g c = c.in-Ok.ensures.settle
 pub invariant_of-self-in_default-older-clause-seen : goal.invariant_of-self-in_default-older-clause-seen
 invariant_of-self-in_default-older-clause-seen g c =
     let it = c.args.self.now in
-    HasSeen-looked it.rep_ts it.rep_ts c.apply_ready.new.self.memory refl c.in-Ok.ensures.settled.looked
+    HasSeen-looked it.rep_ts it.rep_ts c.apply_ready.new.value.memory refl c.in-Ok.ensures.settled.looked
 
 pub invariant_of-self-in_default-older-clause-waits : goal.invariant_of-self-in_default-older-clause-waits
 invariant_of-self-in_default-older-clause-waits g c known =
     let it = c.args.self.now in
-    let same = subst (IsOlderOf (progress it.value it.calls) (progress c.apply_ready.new.self c.apply_ready.new.calls))
+    let same = subst (IsOlderOf (progress it.value it.calls) (progress c.apply_ready.new.value c.apply_ready.new.calls))
     c.in_default-older.is c.in-Ok.ensures.older in
     subst (λ val_ts. NoneApplied val_ts it.held.items) (sym (ap (λ p. p.val_ts) same)) (it.waits known)

@@ -3,7 +3,7 @@ use Rattle.lr_causal.specs.Savepoint.{Saved}
 use Rattle.lr_causal.proofs.Facts.{AllLogged-filter}
 use Rattle.lr_causal.proofs.Received.{AllAcksReceived-stays, AllReceived-stays}
 use Rattle.lr_causal.proofs.StampRows.{AllStamps-count}
-use Rattle.lr_causal.proofs.Tables.{AllKnown-take}
+use Rattle.lr_causal.proofs.Tables.{AllKnown-without}
 use Rattle.lr_causal.proofs.causal.Causal.restore.Goals as goal
 
 pub invariant_of-self-clause-updates_received : goal.invariant_of-self-clause-updates_received
@@ -15,7 +15,8 @@ invariant_of-self-clause-acks_received g c =
     AllAcksReceived-stays c.point.inside.rep_ts _ c.args.self.now.log.acks c.drop_new.new.self.acks refl c.drop_new.ensures.acks
 
 pub invariant_of-self-clause-known : goal.invariant_of-self-clause-known
-invariant_of-self-clause-known g c = AllKnown-take _ c.point.inside.calls c.args.self.now.calls c.cut.new.self c.cut.ensures c.args.self.now.known
+invariant_of-self-clause-known g c =
+    AllKnown-without _ c.as_slice.result.now c.args.self.now.calls c.leave.new.self c.leave.ensures c.args.self.now.known
 
 pub invariant_of-self-clause-logged : goal.invariant_of-self-clause-logged
 invariant_of-self-clause-logged g c =

@@ -1,0 +1,7 @@
+use Rattle.std.proofs.Common.{◌≡◌, drop}
+use Rattle.lr_causal.specs.Tables.{without}
+use Rattle.lr_causal.proofs.calls.CallTable.leave.Given as goal
+
+-- once the others have left too, all have
+abbrev pub invariant-loop-cid : goal.invariant-loop-cid
+invariant-loop-cid l = without (drop l.cid-index l.cids) l.self ≡ without l.cids l.initial.self

@@ -1,0 +1,13 @@
+use Rattle.std.proofs.Common.{◌≡◌, ◌∙◌, ◌∷◌, [], ap, sym, cond, None}
+use Rattle.lr_base.specs.Rules.{same_cid}
+use Rattle.lr_causal.specs.Tables.{without}
+use Rattle.lr_causal.proofs.Tables.{by_call-removed, lookup-known_of}
+use Rattle.lr_causal.proofs.calls.CallTable.take_out.Goals as goal
+
+pub returns : goal.returns
+returns c =
+    by_call-removed c.self.inside.known.entries c.swap_remove-known.new.self.entries c.args.cid c.self.invariant
+    c.swap_remove-known.ensures.unique
+    (λ q. sym (lookup-known_of c.swap_remove-known.new.self.entries q) ∙ c.swap_remove-known.ensures.updates.0 q
+    ∙ ap (cond (same_cid c.args.cid q) None) (lookup-known_of c.self.inside.known.entries q))
+    ∙ ap (without (c.args.cid ∷ [])) c.self.view_is
