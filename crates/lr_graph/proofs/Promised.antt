@@ -1,0 +1,7 @@
+-- What a history promises to its clients.
+pub mod Changes
+pub mod Walk
+pub mod Points
+pub mod Sessions
+pub mod Later
+pub mod Alike

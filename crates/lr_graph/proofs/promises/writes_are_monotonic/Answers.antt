@@ -1,0 +1,13 @@
+use Rattle.std.proofs.Common.{refl}
+use Rattle.lr_graph.specs.Graph.{DoneReply}
+use Rattle.lr_graph.proofs.Promised.Later.{done-there, told-update}
+use Rattle.lr_graph.proofs.promises.writes_are_monotonic.Goals as goal
+
+pub returns-clause-all : goal.returns-clause-all
+returns-clause-all g c config before between later done call client first second names a fits legal took calls member of =
+    told-update g.S.Service.meaning _ g.met.S.Service.lawful config before between later done call client first second names (DoneReply first names) (refl, refl) fits legal took calls a member of
+
+pub returns-clause-call : goal.returns-clause-call
+returns-clause-call g c config before between later done call client first second names a fits legal took calls member of =
+    done-there g.S.Service.meaning _ g.met.S.Service.lawful config before between later done call client first names a.below fits legal took
+    (told-update g.S.Service.meaning _ g.met.S.Service.lawful config before between later done call client first second names (DoneReply first names) (refl, refl) fits legal took calls a member of)
