@@ -5,3 +5,4 @@ pub mod Points
 pub mod Sessions
 pub mod Later
 pub mod Alike
+pub mod Rounds

@@ -1,12 +1,13 @@
 -- What clients are told in a history: the replies that they take, with the sets that these stand for.
-use Rattle.std.specs.Prelude.{◌≡◌, ℕ, true, List, Some}
+use Rattle.std.specs.Prelude.{◌≡◌, ◌≢◌, ◌<◌, ℕ, true, List, ◌∷◌, ◌++◌, Some}
 use Rattle.lr_base.specs.Orders.{IsAmong}
-use Rattle.lr_base.specs.declared.events.Event.TheVariants.{Call}
+use Rattle.lr_base.specs.declared.events.Event.TheVariants.{Call, Deliver, Gossip as GossipEvent}
 use Rattle.lr_base.specs.declared.events.Outcome.TheVariants.{Send, Got}
-use Rattle.lr_base.specs.declared.events.Sent.TheVariants.{Update}
+use Rattle.lr_base.specs.declared.events.Sent.TheVariants.{Update, Gossip}
 use Rattle.lr_base.specs.declared.events.Step.{Step}
 use Rattle.lr_base.specs.declared.names.Actor.TheVariants.{Client, Replica}
 use Rattle.lr_base.specs.declared.names.Cid.{Cid}
+use Rattle.lr_base.specs.declared.names.Config.{Config}
 use Rattle.lr_base.specs.declared.names.Spot.{Spot}
 use Rattle.lr_graph.specs.After.{delivery_of}
 use Rattle.lr_graph.specs.Central.{facts_after}
@@ -53,3 +54,25 @@ pub record CallsUpdate {Op : Type 0} (step : Step Op) (client : ℕ) (cid : Cid)
 -- two replicas received the same of what was accepted
 abbrev pub HaveReceivedAlike : {Op : Type 0} → Facts Op → ℕ → ℕ → Type 0
 HaveReceivedAlike w i j = Each (λ a. w.received i a.spot ≡ w.received j a.spot) w.accepted
+
+-- a replica received all that was accepted
+abbrev pub HasReceivedAll : {Op : Type 0} → Facts Op → ℕ → Type 0
+HasReceivedAll w i = Each (λ a. w.received i a.spot ≡ true) w.accepted
+
+-- within these steps a replica sent gossip to another, and this was delivered
+pub record HasGossiped {Op : Type 0} (steps : List (Step Op)) (from to : ℕ) : Type 0 where
+  pub first : List (Step Op)
+  pub sending : Step Op
+  pub between : List (Step Op)
+  pub delivering : Step Op
+  pub last : List (Step Op)
+  pub steps_are : steps ≡ first ++ sending ∷ between ++ delivering ∷ last
+  pub number : ℕ
+  pub event : sending.event ≡ GossipEvent from to
+  pub sent : IsAmong (Send number (Replica from) (Replica to) Gossip) sending.outcomes
+  pub delivered : delivering.event ≡ Deliver number
+
+-- within these steps each replica's gossip to each other was sent and delivered
+abbrev pub IsRound : {Op : Type 0} → Config → List (Step Op) → Type 0
+IsRound config steps =
+    (from to : ℕ) → from < config.replicas → to < config.replicas → from ≢ to → HasGossiped steps from to

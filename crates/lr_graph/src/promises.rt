@@ -1,12 +1,13 @@
 //! What every legal history promises to its clients: each function does nothing, and its contract is the promise.
-ghost use Rattle.std.specs.Prelude.{◌≡◌, ◌++◌, ◌∷◌, ℕ, true, List};
+ghost use Rattle.std.specs.Prelude.{◌≡◌, ◌<◌, ◌++◌, ◌∷◌, ℕ, [], true, List};
 ghost use Rattle.lr_base.specs.Events.{IsEventOf};
 ghost use Rattle.lr_base.specs.Orders.{IsAmong};
 ghost use Rattle.lr_graph.specs.Closed.{Each};
 ghost use Rattle.lr_graph.specs.Graph.{Acceptance, has_call, ready, value};
 ghost use Rattle.lr_graph.specs.Legal.{IsLegal};
 ghost use Rattle.lr_graph.specs.Orderings.{FollowsCauses, everything, ready_as_made};
-ghost use Rattle.lr_graph.specs.Promises.{◌⊆◌, CallsUpdate, HaveReceivedAlike, TakesAnswer, TakesDone, facts_of};
+ghost use Rattle.lr_graph.specs.Promises.{◌⊆◌, CallsUpdate, HasReceivedAll, HaveReceivedAlike, IsRound};
+ghost use Rattle.lr_graph.specs.Promises.{TakesAnswer, TakesDone, facts_of};
 ghost use Rattle.lr_graph.specs.Sets.{SpotSet};
 ghost use Rattle.lr_graph.specs.Slow.{value_after};
 
@@ -100,4 +101,25 @@ pub fn replicas_converge<S: Service>()
         → value_after S.meaning steps i ≡ value_after S.meaning steps j }
     ensures answer { (steps : List (Step S.Op)) (i j : ℕ) (op : S.Op) → HaveReceivedAlike (facts_of steps) i j
         → S.meaning.read (value_after S.meaning steps i) op ≡ S.meaning.read (value_after S.meaning steps j) op }
+{}
+
+/// Progress: where each replica's gossip to each other was sent and delivered, and nothing was accepted meanwhile,
+/// each replica has received all, holds no query, and has the value of each other. One round is enough.
+pub fn one_round_of_gossip_is_enough<S: Service>()
+    ensures received { (config : Config) (before round : List (Step S.Op))
+        → Each (λ step. IsEventOf S.meaning config step.event) (before ++ round)
+        → IsLegal S.meaning config (before ++ round)
+        → IsRound config round → (facts_of (before ++ round)).accepted ≡ (facts_of before).accepted
+        → (i : ℕ) → i < config.replicas → HasReceivedAll (facts_of (before ++ round)) i }
+    ensures held { (config : Config) (before round : List (Step S.Op))
+        → Each (λ step. IsEventOf S.meaning config step.event) (before ++ round)
+        → IsLegal S.meaning config (before ++ round)
+        → IsRound config round → (facts_of (before ++ round)).accepted ≡ (facts_of before).accepted
+        → (i : ℕ) → i < config.replicas → (facts_of (before ++ round)).held i ≡ [] }
+    ensures value { (config : Config) (before round : List (Step S.Op))
+        → Each (λ step. IsEventOf S.meaning config step.event) (before ++ round)
+        → IsLegal S.meaning config (before ++ round)
+        → IsRound config round → (facts_of (before ++ round)).accepted ≡ (facts_of before).accepted
+        → (i j : ℕ) → i < config.replicas → j < config.replicas
+        → value_after S.meaning (before ++ round) i ≡ value_after S.meaning (before ++ round) j }
 {}

@@ -81,7 +81,7 @@ module _ {Value Op : Type 0} (m : Meaning Value Op) (kind_of : Op → Kind) (law
   abbrev pub Fits : List (Step Op) → Type 0
   Fits steps = Each (λ step. IsEventOf m config step.event) steps
 
-  first-point : IsPoint first_facts (first_run m config)
+  pub first-point : IsPoint first_facts (first_run m config)
   first-point = record { same = first-same m config; fresh = record { accepted = tt; messages = tt; held = λ i. tt; opened = λ client. tt; numbered = tt } }
 
   pub step-point : (w : Facts Op) (v : RunState Value Op) → IsPoint w v → (step : Step Op) → IsEventOf m config step.event → step.outcomes ≡ outcomes_of m config w step.event

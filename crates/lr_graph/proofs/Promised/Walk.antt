@@ -5,6 +5,7 @@ use Rattle.lr_base.specs.Meaning.{Meaning}
 use Rattle.lr_base.specs.Orders.{IsAmong}
 use Rattle.lr_base.specs.Rules.{known_of, same_cid}
 use Rattle.std.specs.Option.{option_map}
+use Rattle.std.proofs.lemmas.List.{append_assoc}
 use Rattle.lr_base.specs.declared.acts.Posted.{Posted}
 use Rattle.lr_base.specs.declared.events.Event.{Event}
 use Rattle.lr_base.specs.declared.events.Event.TheVariants.{Call, Deliver, Gossip as GossipEvent, Show}
@@ -57,6 +58,44 @@ taken-again {Value} {Op} m config w v same i here cid spot e = by_kept (kept_spo
                 let a = table.stamps cid k known in
                 let is : k.spot ≡ spot = cc in
                 (a.0, a.1, a.3, sym a.2 ∙ is)
+
+-- ---- the end of a replica's step
+
+module _ {Value Op : Type 0} (m : Meaning Value Op) (w : Facts Op) (i : ℕ) (x : Option (SentMessage Op)) where
+  -- answers only send
+  abbrev pub Sends : List (SentMessage Op) → List Outcome → Type 0
+  Sends messages lines = (new : List (SentMessage Op)) × (lines_read x (record w { messages = messages }) lines ≡ record w { messages = new ++ messages })
+
+  pub answers-send : (number : ℕ) (calls : List (LabelledCall Op)) (messages : List (SentMessage Op)) → Sends messages (answers m w number i calls)
+  answers-send number [] messages = ([], refl)
+  answers-send number (call ∷ calls) messages = by_test (is_within w.accepted call.label (w.received i)) (λ more. answers-send (suc number) calls more) (answers-send number calls messages)
+    where
+      by_test : (t : Bool) → ((more : List (SentMessage Op)) → Sends more (answers m w (suc number) i calls)) → Sends messages (answers m w number i calls)
+          → Sends messages (cond t (answer_line m w number i call ∷ answers m w (suc number) i calls) (answers m w number i calls))
+      by_test false sent none = none
+      by_test true sent none =
+          let one : SentMessage Op = record { number = number; from = Replica i; to = Client call.cid.client; what = AnswerReply call.cid (ready w.accepted (w.received i)) } in
+          let rest = sent (one ∷ messages) in
+          (rest.0 ++ one ∷ [], rest.1 ∙ ap (λ l. record w { messages = l }) (sym (append_assoc rest.0 (one ∷ []) messages)))
+
+module _ {Value Op : Type 0} (m : Meaning Value Op) (config : Config) (w : Facts Op) (step : Step Op) (legal : step.outcomes ≡ outcomes_of m config w step.event) where
+  -- the facts after the lines of the event itself
+  abbrev pub own_read : Event Op → Facts Op
+  own_read event = lines_read (delivery_of w event) (event_read w event) (own_lines m config w event)
+
+  pub after-parts : after w step ≡ step_ended (stepping w step.event) (lines_read (delivery_of w step.event) (own_read step.event) (answers_at m (own_read step.event) (stepping w step.event)))
+  after-parts =
+      ap (λ (lines : List Outcome). step_ended (stepping w step.event) (lines_read (delivery_of w step.event) (event_read w step.event) lines)) legal
+      ∙ ap (step_ended (stepping w step.event)) (lines_read-append (delivery_of w step.event) (event_read w step.event) (own_lines m config w step.event) _)
+
+  -- behind its own part a step of a replica only sends, and then ends
+  pub after-ended : (i : ℕ) → stepping w step.event ≡ Some i
+      → (new : List (SentMessage Op)) × (after w step ≡ end_read (record (own_read step.event) { messages = new ++ (own_read step.event).messages }) i)
+  after-ended i e =
+      let mid = own_read step.event in
+      let x = delivery_of w step.event in
+      let sent = answers-send m mid i x (next_number mid) (mid.held i) mid.messages in
+      (sent.0, after-parts ∙ ap (λ o. step_ended o (lines_read x mid (answers_at m mid o))) e ∙ ap (λ (u : Facts Op). end_read u i) sent.1)
 
 module _ {Value Op : Type 0} (m : Meaning Value Op) (config : Config) (F : (ℕ → ℕ) → Cid → SpotSet → Type 0) (O : ℕ → Cid → Type 0)
     (counts : (n more : ℕ → ℕ) → ((client : ℕ) → n client ≤ more client) → (cid : Cid) (x : SpotSet) → F n cid x → F more cid x)
@@ -206,17 +245,6 @@ module _ {Value Op : Type 0} (m : Meaning Value Op) (config : Config) (F : (ℕ 
       }
 
   module _ (w : Facts Op) (i : ℕ) (x : Option (SentMessage Op)) where
-    -- answers only send
-    answers-accepted : (number : ℕ) (calls : List (LabelledCall Op)) (messages : List (SentMessage Op)) → (lines_read x (record w { messages = messages }) (answers m w number i calls)).accepted ≡ w.accepted
-    answers-accepted number [] messages = refl
-    answers-accepted number (call ∷ calls) messages = by_test (is_within w.accepted call.label (w.received i)) (λ more. answers-accepted (suc number) calls more) (answers-accepted number calls messages)
-      where
-        by_test : (t : Bool) → ((more : List (SentMessage Op)) → (lines_read x (record w { messages = more }) (answers m w (suc number) i calls)).accepted ≡ w.accepted)
-            → (lines_read x (record w { messages = messages }) (answers m w number i calls)).accepted ≡ w.accepted
-            → (lines_read x (record w { messages = messages }) (cond t (answer_line m w number i call ∷ answers m w (suc number) i calls) (answers m w number i calls))).accepted ≡ w.accepted
-        by_test true sent none = sent _
-        by_test false sent none = none
-
     answers-next : Answered w.accepted → (calls : List (LabelledCall Op)) → Each (λ c. F (calls_in w) c.cid c.label) calls → (messages : List (SentMessage Op)) → Kept (record w { messages = messages })
         → Next (Some i) (record w { messages = messages }) (lines_read x (record w { messages = messages }) (answers m w (suc (length messages)) i calls))
     answers-next answered [] fine messages k = next-same F O counts grows (Some i) (record w { messages = messages }) k
@@ -240,19 +268,14 @@ module _ {Value Op : Type 0} (m : Meaning Value Op) (config : Config) (F : (ℕ 
   pub step-next : (w : Facts Op) (v : RunState Value Op) → Kept w → IsSame m config w v → Answered w.accepted → Opens w → (step : Step Op) → step.outcomes ≡ outcomes_of m config w step.event
       → Answered (after w step).accepted → Next (stepping w step.event) w (after w step)
   step-next w v h same answered opens step legal last =
-      let x = delivery_of w step.event in
-      let own = own_lines m config w step.event in
-      let mid = lines_read x (event_read w step.event) own in
-      let read = λ (lines : List Outcome). step_ended (stepping w step.event) (lines_read x (event_read w step.event) lines) in
-      let all : lines_read x (event_read w step.event) (outcomes_of m config w step.event) ≡ lines_read x mid (answers_at m mid (stepping w step.event)) = lines_read-append x (event_read w step.event) own _ in
-      let is : after w step ≡ step_ended (stepping w step.event) (lines_read x mid (answers_at m mid (stepping w step.event))) = ap read legal ∙ ap (step_ended (stepping w step.event)) all in
+      let is = after-parts m config w step legal in
       subst (Next (stepping w step.event) w) (sym is)
-      (by_actor (stepping w step.event) mid x (own-next w h v same answered opens step.event) (subst (λ (u : Facts Op). Answered u.accepted) is last))
+      (by_actor (stepping w step.event) (own_read m config w step legal step.event) (delivery_of w step.event) (own-next w h v same answered opens step.event) (subst (λ (u : Facts Op). Answered u.accepted) is last))
     where
       by_actor : (o : Option ℕ) (mid : Facts Op) (x : Option (SentMessage Op)) → Next o w mid → Answered (step_ended o (lines_read x mid (answers_at m mid o))).accepted
           → Next o w (step_ended o (lines_read x mid (answers_at m mid o)))
       by_actor None mid x one last = one
       by_actor (Some i) mid x one last =
           then-next w h (Some i) mid _ one (λ k.
-          then-next mid k (Some i) _ _ (answers-next mid i x (subst Answered (answers-accepted mid i x (next_number mid) (mid.held i) mid.messages) last) (mid.held i) (k.held i) mid.messages k)
+          then-next mid k (Some i) _ _ (answers-next mid i x (subst Answered (ap (λ (u : Facts Op). u.accepted) (answers-send m mid i x (next_number mid) (mid.held i) mid.messages).1) last) (mid.held i) (k.held i) mid.messages k)
           (λ more. ended-next i (lines_read x mid (answers m mid (next_number mid) i (mid.held i))) more))
