@@ -38,7 +38,7 @@ pub record IsLater {Op : Type 0} (w later : Facts Op) : Type 0 where
   pub label : (client : ℕ) → (w.front client).label ⊆ (later.front client).label
   pub calls : (client : ℕ) → calls_in w client ≤ calls_in later client
 
-extends-more : {A : Type 0} (xs ys zs : List A) → Extends ys xs → Extends zs ys → Extends zs xs
+pub extends-more : {A : Type 0} (xs ys zs : List A) → Extends ys xs → Extends zs ys → Extends zs xs
 extends-more xs ys zs one two = (two.0 ++ one.0, two.1 ∙ ap (λ l. two.0 ++ l) one.1 ∙ sym (append_assoc two.0 one.0 xs))
 
 module _ {Op : Type 0} where

@@ -27,8 +27,8 @@ use Rattle.lr_graph.specs.Runs.{RunState, first_run, stepped}
 use Rattle.lr_graph.specs.Sets.{SpotSet, ◌∪◌}
 use Rattle.lr_graph.proofs.Lists.Members.{each-at, each-from, each-map, filter-each}
 use Rattle.lr_graph.proofs.Lists.Tests.{equal-or-not, never, not-false, or-right}
-use Rattle.lr_graph.proofs.Promised.Changes.{Extends, IsLater, IsNext, IsNumbered}
-use Rattle.lr_graph.proofs.Promised.Points.{IsFresh, IsOwn, IsPoint, any-point, each-parts, facts-parts, fresh-counts, fresh-grows, later-point, legal-parts, step-point}
+use Rattle.lr_graph.proofs.Promised.Changes.{Extends, extends-more, IsLater, IsNext, IsNumbered}
+use Rattle.lr_graph.proofs.Promised.Points.{IsFresh, IsOwn, IsPoint, any-point, each-parts, facts-parts, first-point, fresh-counts, fresh-grows, later-point, legal-parts, step-point}
 use Rattle.lr_graph.proofs.Promised.Walk.{Next, after-ended, own_read}
 use Rattle.lr_graph.proofs.Replicas.Stepping.{put-same}
 use Rattle.lr_graph.proofs.Sets.ReadySets.{holds-within}
@@ -122,6 +122,10 @@ module _ {Value Op : Type 0} (m : Meaning Value Op) (kind_of : Op → Kind) (law
       own-number [] numbered = numbered.0
       own-number (z ∷ new) numbered = own-number new numbered.1
 
+  -- the gossip that one replica sends to another
+  abbrev gossip_in : Facts Op → ℕ → ℕ → SentMessage Op
+  gossip_in w from to = record { number = next_number w; from = Replica from; to = Replica to; what = GossipOf (w.received from) }
+
   -- the gossip that a replica sends has the next number
   gossip-number : (w : Facts Op) (step : Step Op) → step.outcomes ≡ outcomes_of m config w step.event → (from to number : ℕ) → step.event ≡ GossipEvent from to → IsAmong (Send number (Replica from) (Replica to) Gossip) step.outcomes
       → number ≡ next_number w
@@ -132,6 +136,22 @@ module _ {Value Op : Type 0} (m : Meaning Value Op) (kind_of : Op → Kind) (law
       by_line (inr among) =
           let mid = lines_read None w (own_lines m config w (GossipEvent from to)) in
           absurd (no-gossip mid (next_number mid) from number (Replica from) (Replica to) (mid.held from) among)
+
+  -- what the sender received stands in a message of this number
+  gossip-sent : (w : Facts Op) (step : Step Op) → step.outcomes ≡ outcomes_of m config w step.event → (from to : ℕ) → step.event ≡ GossipEvent from to
+      → (new : List (SentMessage Op)) × ((after w step).messages ≡ new ++ gossip_in w from to ∷ w.messages)
+  gossip-sent w step legal from to event =
+      let last = after-ended m config w step legal from (ap (stepping w) event) in
+      let own = λ (event : Event Op). (own_read m config w step legal event).messages in
+      (last.0, ap (λ (u : Facts Op). u.messages) last.1 ∙ ap (λ (event : Event Op). last.0 ++ own event) event)
+
+  -- who takes it received that too
+  gossip-taken : (w : Facts Op) (step : Step Op) → step.outcomes ≡ outcomes_of m config w step.event → (sender : Facts Op) (from to number : ℕ) → step.event ≡ Deliver number
+      → find (λ y. y.number == number) w.messages ≡ Some (gossip_in sender from to) → (after w step).received to ≡ (w.received to ∪ sender.received from)
+  gossip-taken w step legal sender from to number event found =
+      let last = after-ended m config w step legal to (ap (stepping w) event ∙ ap receiving found) in
+      ap (λ (u : Facts Op). u.received to) last.1 ∙ ap (λ (event : Event Op). (own_read m config w step legal event).received to) event
+      ∙ ap (λ o. (lines_read o w (delivery_lines m config w number o)).received to) found ∙ put-same to (w.received to ∪ sender.received from) w.received
 
   -- what was received where gossip was sent is received where it was delivered
   spreads : (w : Facts Op) (v : RunState Value Op) → Point w v → (first between last : List (Step Op)) (sending delivering : Step Op) → Each (λ step. IsEventOf m config step.event) (first ++ sending ∷ between ++ delivering ∷ last)
@@ -152,21 +172,14 @@ module _ {Value Op : Type 0} (m : Meaning Value Op) (kind_of : Op → Kind) (law
       let legal3 = subst (λ (u : Facts Op). LegalFrom m config u (delivering ∷ last)) same legal1.1 in
       let d = step-point m kind_of lawful config w3 c.0 c.1 delivering fits1.1.0 legal3.0 in
       let e = later-point m kind_of lawful config last (after w3 delivering) (stepped m c.0 delivering.event).run d.0 fits1.1.1 legal3.1 in
-      let x : SentMessage Op = record { number = next_number w1; from = Replica from; to = Replica to; what = GossipOf (w1.received from) } in
-      let gossips = after-ended m config w1 sending legal0.1.0 from (ap (stepping w1) event) in
-      let messages : w3.messages ≡ (c.2.messages.0 ++ gossips.0) ++ x ∷ w1.messages =
-          c.2.messages.1 ∙ ap (λ (u : Facts Op). c.2.messages.0 ++ u.messages) gossips.1
-          ∙ ap (λ (ev : Event Op). c.2.messages.0 ++ (gossips.0 ++ (own_read m config w1 sending legal0.1.0 ev).messages)) event
-          ∙ sym (append_assoc c.2.messages.0 gossips.0 (x ∷ w1.messages)) in
-      let found : find (λ y. y.number == number) w3.messages ≡ Some x =
-          ap (λ n. find (λ (y : SentMessage Op). y.number == n) w3.messages) (gossip-number w1 sending legal0.1.0 from to number event sent) ∙ ap (find (λ (y : SentMessage Op). y.number == next_number w1)) messages
-          ∙ found-later x w1.messages (c.2.messages.0 ++ gossips.0) (subst IsNumbered messages c.1.fresh.numbered) in
-      let takes = after-ended m config w3 delivering legal3.0 to (ap (stepping w3) delivered ∙ ap receiving found) in
-      let received : (after w3 delivering).received to ≡ (w3.received to ∪ w1.received from) =
-          ap (λ (u : Facts Op). u.received to) takes.1 ∙ ap (λ (ev : Event Op). (own_read m config w3 delivering legal3.0 ev).received to) delivered
-          ∙ ap (λ o. (lines_read o w3 (delivery_lines m config w3 number o)).received to) found ∙ put-same to (w3.received to ∪ w1.received from) w3.received in
+      let sends = gossip-sent w1 sending legal0.1.0 from to event in
+      let messages = extends-more (gossip_in w1 from to ∷ w1.messages) (after w1 sending).messages w3.messages sends c.2.messages in
+      let found = ap (λ n. find (λ (y : SentMessage Op). y.number == n) w3.messages) (gossip-number w1 sending legal0.1.0 from to number event sent)
+              ∙ ap (find (λ (y : SentMessage Op). y.number == next_number w1)) messages.1
+              ∙ found-later (gossip_in w1 from to) w1.messages messages.0 (subst IsNumbered messages.1 c.1.fresh.numbered) in
+      let taken = gossip-taken w3 delivering legal3.0 w1 from to number delivered found in
       let end : facts_after w (start ++ delivering ∷ last) ≡ facts_after (after w3 delivering) last = facts-parts start (delivering ∷ last) w ∙ ap (λ (u : Facts Op). facts_after u (delivering ∷ last)) same in
-      ap (λ (u : Facts Op). u.received to s) end ∙ e.2.received to s (ap (λ (r : SpotSet). r s) received ∙ or-right _ _ (a.2.received from s here))
+      ap (λ (u : Facts Op). u.received to s) end ∙ e.2.received to s (ap (λ (r : SpotSet). r s) taken ∙ or-right _ _ (a.2.received from s here))
 
   gossip-spreads : (w : Facts Op) (v : RunState Value Op) → Point w v → (steps : List (Step Op)) → Each (λ step. IsEventOf m config step.event) steps → LegalFrom m config w steps
       → (from to : ℕ) → HasGossiped steps from to → w.received from ⊆ (facts_after w steps).received to
@@ -199,7 +212,7 @@ module _ {Value Op : Type 0} (m : Meaning Value Op) (kind_of : Op → Kind) (law
     pub none-held : (i : ℕ) → i < config.replicas → (facts_of (before ++ round)).held i ≡ []
     none-held i inside =
         let w = facts_of (before ++ round) in
-        by_list (w.held i) (waits-later (before ++ round) first_facts (first_run m config) (Rattle.lr_graph.proofs.Promised.Points.first-point m kind_of lawful config) fits legal (λ j. tt) i)
+        by_list (w.held i) (waits-later (before ++ round) first_facts (first_run m config) (first-point m kind_of lawful config) fits legal (λ j. tt) i)
       where
         by_list : (calls : List (LabelledCall Op)) → Each (λ call. is_within (facts_of (before ++ round)).accepted call.label ((facts_of (before ++ round)).received i) ≡ false) calls → calls ≡ []
         by_list [] wait = refl
