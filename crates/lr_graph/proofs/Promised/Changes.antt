@@ -1,5 +1,5 @@
 -- How facts change, one thing at a time, and what goes on to hold of all that has a call's name and a set.
-use Rattle.std.proofs.Common.{◌≡◌, ℕ, suc, ◌≤◌, Bool, true, false, cond, ◌==◌, inl, inr, List, [], ◌∷◌, ◌++◌, length, Option, Some, None, refl, sym, ap, ◌∙◌, subst, arith, eqb-true}
+use Rattle.std.proofs.Common.{◌≡◌, ℕ, suc, ◌≤◌, Bool, true, false, cond, ◌==◌, inr, List, [], ◌∷◌, ◌++◌, length, Option, Some, None, refl, sym, ap, ◌∙◌, subst, arith, eqb-true}
 use Rattle.std.proofs.lemmas.List.{append_assoc}
 use Rattle.lr_base.specs.Orders.{IsAmong}
 use Rattle.lr_base.specs.declared.events.Sent.{Sent}

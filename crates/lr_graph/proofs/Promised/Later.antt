@@ -4,8 +4,6 @@ use Rattle.lr_base.specs.Events.{IsEventOf}
 use Rattle.lr_base.specs.Kinds.{is_query}
 use Rattle.lr_base.specs.Meaning.{Lawful, Meaning}
 use Rattle.lr_base.specs.Orders.{IsAmong}
-use Rattle.lr_base.specs.declared.events.Event.{Event}
-use Rattle.lr_base.specs.declared.events.Outcome.{Outcome}
 use Rattle.lr_base.specs.declared.events.Outcome.TheVariants.{Send, Refuse}
 use Rattle.lr_base.specs.declared.events.Refusal.{Refusal}
 use Rattle.lr_base.specs.declared.events.Sent.TheVariants.{Query, Update}
@@ -15,13 +13,13 @@ use Rattle.lr_base.specs.declared.names.Actor.{Actor}
 use Rattle.lr_base.specs.declared.names.Actor.TheVariants.{Client, Replica}
 use Rattle.lr_base.specs.declared.names.Cid.{Cid}
 use Rattle.lr_base.specs.declared.names.Config.{Config}
-use Rattle.lr_graph.specs.After.{after, next_call}
+use Rattle.lr_graph.specs.After.{after}
 use Rattle.lr_graph.specs.Central.{facts_after}
 use Rattle.lr_graph.specs.Closed.{Each}
 use Rattle.lr_graph.specs.Graph.{Acceptance, Carried, DoneReply, Facts, LabelledCall, AnswerReply, first_facts, has_call}
-use Rattle.lr_graph.specs.Legal.{IsLegal, LegalFrom, call_lines, next_number, outcomes_of}
+use Rattle.lr_graph.specs.Legal.{IsLegal, call_lines, next_number, outcomes_of}
 use Rattle.lr_graph.specs.Promises.{◌⊆◌, CallsUpdate, Takes, facts_of}
-use Rattle.lr_graph.specs.Runs.{RunState, first_run, stepped}
+use Rattle.lr_graph.specs.Runs.{RunState, stepped}
 use Rattle.lr_graph.specs.Sets.{SpotSet}
 use Rattle.lr_graph.proofs.Lists.Members.{each-at}
 use Rattle.lr_graph.proofs.Promised.Changes.{IsFine, IsOpenFine, fine-more}

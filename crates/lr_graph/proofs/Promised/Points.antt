@@ -1,5 +1,5 @@
 -- Points of legal histories, and what holds between an earlier and a later one.
-use Rattle.std.proofs.Common.{◌≡◌, ℕ, suc, ◌<◌, ◌≤◌, true, List, [], ◌∷◌, ◌++◌, refl, sym, ap, ◌∙◌, subst, true≢false, arith}
+use Rattle.std.proofs.Common.{◌≡◌, ℕ, ◌≤◌, List, [], ◌∷◌, ◌++◌, refl, sym, ap, ◌∙◌, subst, true≢false, arith}
 use Rattle.lr_base.specs.Events.{IsEventOf}
 use Rattle.lr_base.specs.Meaning.{Lawful, Meaning}
 use Rattle.lr_base.specs.declared.events.Outcome.{Outcome}
@@ -12,7 +12,6 @@ use Rattle.lr_graph.specs.Central.{facts_after}
 use Rattle.lr_graph.specs.Closed.{Each, IsAccepted, IsSetOf, IsSound}
 use Rattle.lr_graph.specs.Graph.{Acceptance, Facts, first_facts}
 use Rattle.lr_graph.specs.Legal.{LegalFrom, outcomes_of}
-use Rattle.lr_graph.specs.Promises.{◌⊆◌}
 use Rattle.lr_graph.specs.Runs.{RunState, first_run, stepped}
 use Rattle.lr_graph.specs.Sets.{SpotSet, same_spot, ◌∪◌}
 use Rattle.lr_graph.proofs.Events.EachEvent.{same-step}
@@ -22,7 +21,7 @@ use Rattle.lr_graph.proofs.Lists.Tests.{same_spot-self}
 use Rattle.lr_graph.proofs.Promised.Changes.{IsLater, later-more, later-self}
 use Rattle.lr_graph.proofs.Promised.Walk.{Kept, Next, step-next}
 use Rattle.lr_graph.proofs.Related.More.{set-more}
-use Rattle.lr_graph.proofs.Related.Relation.{IsSame, calls_in}
+use Rattle.lr_graph.proofs.Related.Relation.{IsSame}
 
 -- a set of acceptances stays one where more are made
 sound-older : {Op : Type 0} (a : Acceptance Op) (l : List (Acceptance Op)) → IsSound (a ∷ l) → IsSound l

@@ -1,6 +1,6 @@
 -- Where each replica's gossip reaches each other, all have received all, and no query is held.
-use Rattle.std.proofs.Common.{◌≡◌, ◌≢◌, ℕ, suc, ◌<◌, ◌≤◌, ◌==◌, Bool, true, false, cond, not, ◌&&◌, ◌||◌, filter, find, ◌⊎◌, inl, inr, List, [], ◌∷◌, ◌++◌, length, Option, Some, None, refl, sym, ap, ◌∙◌, subst, true≢false, arith, eq-eqb, eqb-true}
-use Rattle.std.proofs.lemmas.List.{append_assoc, length-append}
+use Rattle.std.proofs.Common.{◌≡◌, ◌≢◌, ℕ, suc, ◌<◌, ◌==◌, Bool, true, false, cond, not, ◌&&◌, ◌||◌, filter, find, ◌⊎◌, inl, inr, List, [], ◌∷◌, ◌++◌, length, Option, Some, None, refl, sym, ap, ◌∙◌, subst, true≢false, arith, eq-eqb, eqb-true}
+use Rattle.std.proofs.lemmas.List.{length-append}
 use Rattle.std.proofs.lemmas.List.Folds.{list_all-append}
 use Rattle.std.specs.List.{list_all}
 use Rattle.lr_base.specs.Events.{IsEventOf}
@@ -8,15 +8,13 @@ use Rattle.lr_base.specs.Meaning.{Lawful, Meaning}
 use Rattle.lr_base.specs.Orders.{IsAmong}
 use Rattle.lr_base.specs.declared.events.Event.{Event}
 use Rattle.lr_base.specs.declared.events.Event.TheVariants.{Deliver, Gossip as GossipEvent}
-use Rattle.lr_base.specs.declared.events.Outcome.{Outcome}
 use Rattle.lr_base.specs.declared.events.Outcome.TheVariants.{Send}
-use Rattle.lr_base.specs.declared.events.Sent.TheVariants.{Answer, Gossip}
+use Rattle.lr_base.specs.declared.events.Sent.TheVariants.{Gossip}
 use Rattle.lr_base.specs.declared.events.Step.{Step}
 use Rattle.lr_base.specs.declared.lr_service.Kind.{Kind}
 use Rattle.lr_base.specs.declared.names.Actor.{Actor}
 use Rattle.lr_base.specs.declared.names.Actor.TheVariants.{Replica}
 use Rattle.lr_base.specs.declared.names.Config.{Config}
-use Rattle.lr_base.specs.declared.names.Spot.{Spot}
 use Rattle.lr_graph.specs.After.{after, lines_read, receiving, stepping}
 use Rattle.lr_graph.specs.Central.{facts_after}
 use Rattle.lr_graph.specs.Closed.{Each}
@@ -27,7 +25,7 @@ use Rattle.lr_graph.specs.Runs.{RunState, first_run, stepped}
 use Rattle.lr_graph.specs.Sets.{SpotSet, ◌∪◌}
 use Rattle.lr_graph.proofs.Lists.Members.{each-at, each-from, each-map, filter-each}
 use Rattle.lr_graph.proofs.Lists.Tests.{equal-or-not, never, not-false, or-right}
-use Rattle.lr_graph.proofs.Promised.Changes.{Extends, extends-more, IsLater, IsNext, IsNumbered}
+use Rattle.lr_graph.proofs.Promised.Changes.{Extends, extends-more, IsNumbered}
 use Rattle.lr_graph.proofs.Promised.Points.{IsFresh, IsOwn, IsPoint, any-point, each-parts, facts-parts, first-point, fresh-counts, fresh-grows, later-point, legal-parts, step-point}
 use Rattle.lr_graph.proofs.Promised.Walk.{Next, after-ended, own_read}
 use Rattle.lr_graph.proofs.Replicas.Stepping.{put-same}

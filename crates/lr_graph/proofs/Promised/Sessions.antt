@@ -1,5 +1,5 @@
 -- What a client was told is in all that comes of its later calls.
-use Rattle.std.proofs.Common.{◌≡◌, ℕ, suc, ◌<◌, ◌≤◌, ◌==◌, Bool, true, cond, false, find, ◌⊎◌, inl, inr, List, [], ◌∷◌, ◌++◌, Option, Some, None, refl, sym, ap, ◌∙◌, subst, arith}
+use Rattle.std.proofs.Common.{◌≡◌, ℕ, ◌<◌, ◌≤◌, ◌==◌, Bool, true, cond, false, find, inl, inr, List, [], ◌∷◌, ◌++◌, Option, Some, None, refl, sym, ap, ◌∙◌, subst, arith}
 use Rattle.lr_base.specs.Events.{IsEventOf}
 use Rattle.lr_base.specs.Meaning.{Lawful, Meaning}
 use Rattle.lr_base.specs.Orders.{IsAmong}
@@ -16,22 +16,21 @@ use Rattle.lr_base.specs.declared.names.Actor.{Actor}
 use Rattle.lr_base.specs.declared.names.Actor.TheVariants.{Client}
 use Rattle.lr_base.specs.declared.names.Cid.{Cid}
 use Rattle.lr_base.specs.declared.names.Config.{Config}
-use Rattle.lr_base.specs.declared.names.Spot.{Spot}
 use Rattle.lr_graph.specs.After.{after, delivery_of, got_read, lines_read, receiving, step_ended, takes_reply}
 use Rattle.lr_graph.specs.Central.{facts_after}
 use Rattle.lr_graph.specs.Closed.{Each, IsSetOf, IsSound}
-use Rattle.lr_graph.specs.Graph.{Acceptance, Carried, Facts, FrontFacts, LabelledCall, SentMessage, UpdateCopy, QueryCopy, DoneReply, AnswerReply, GossipOf, Blank, first_facts, is_within, ready}
+use Rattle.lr_graph.specs.Graph.{Acceptance, Carried, Facts, FrontFacts, LabelledCall, SentMessage, UpdateCopy, QueryCopy, DoneReply, AnswerReply, GossipOf, Blank, ready}
 use Rattle.lr_graph.specs.Legal.{LegalFrom, answers_at, delivery_lines, outcomes_of, reply_line}
-use Rattle.lr_graph.specs.Promises.{◌⊆◌, Takes}
+use Rattle.lr_graph.specs.Promises.{◌⊆◌}
 use Rattle.lr_graph.specs.Runs.{RunState, message_at, stepped}
 use Rattle.lr_graph.specs.Sets.{SpotSet, ◌∪◌}
 use Rattle.lr_graph.proofs.Lists.Members.{each-at, each-from, each-map, find-some}
 use Rattle.lr_graph.proofs.Lists.Tests.{or-left, or-right, same_cid-is}
-use Rattle.lr_graph.proofs.Promised.Changes.{Holds, IsFine, IsOpenFine, fine-more}
-use Rattle.lr_graph.proofs.Promised.Points.{IsPoint, later-point, set-later, step-point}
+use Rattle.lr_graph.proofs.Promised.Changes.{Holds, IsOpenFine, fine-more}
+use Rattle.lr_graph.proofs.Promised.Points.{IsPoint, set-later, step-point}
 use Rattle.lr_graph.proofs.Promised.Walk.{Answered, Kept, Opens, step-next}
 use Rattle.lr_graph.proofs.Related.Relation.{IsSame, SameCarried, SameMessage, SameOption, calls_in, same_answer, same_done, same_gossip, same_query, same_update}
-use Rattle.lr_graph.proofs.Replicas.Stepping.{put-other, put-same}
+use Rattle.lr_graph.proofs.Replicas.Stepping.{put-same}
 use Rattle.lr_graph.proofs.Sets.ReadySets.{ready-greatest, within-holds}
 
 -- ---- taking a reply

@@ -1,5 +1,5 @@
 -- What a legal step changes, and what goes on to hold.
-use Rattle.std.proofs.Common.{◌≡◌, ◌^◌, ℕ, suc, ◌≤◌, ◌<◌, max, Bool, true, false, cond, ◌==◌, not, filter, find, inl, inr, List, [], ◌∷◌, ◌++◌, length, Option, Some, None, refl, sym, ap, ◌∙◌, subst, arith}
+use Rattle.std.proofs.Common.{◌≡◌, ◌^◌, ℕ, suc, ◌≤◌, ◌<◌, max, Bool, true, false, cond, ◌==◌, not, filter, find, inl, List, [], ◌∷◌, ◌++◌, length, Option, Some, None, refl, sym, ap, ◌∙◌, subst, arith}
 use Rattle.lr_base.specs.Kinds.{is_query}
 use Rattle.lr_base.specs.Meaning.{Meaning}
 use Rattle.lr_base.specs.Orders.{IsAmong}
@@ -21,13 +21,13 @@ use Rattle.lr_base.specs.declared.names.Config.{Config}
 use Rattle.lr_base.specs.declared.names.Spot.{Spot}
 use Rattle.lr_graph.specs.After.{accepts, after, call_read, carried, delivery_of, end_read, event_read, got_read, lines_read, receiving, step_ended, stepping, takes_reply}
 use Rattle.lr_graph.specs.Closed.{Each, HasApartSpots}
-use Rattle.lr_graph.specs.Graph.{Acceptance, Carried, Facts, FrontFacts, LabelledCall, SentMessage, UpdateCopy, QueryCopy, DoneReply, AnswerReply, GossipOf, Blank, below_of, is_within, kept_spot, least_spot, made, ready}
+use Rattle.lr_graph.specs.Graph.{Acceptance, Carried, Facts, FrontFacts, LabelledCall, SentMessage, UpdateCopy, QueryCopy, DoneReply, AnswerReply, GossipOf, Blank, below_of, is_within, kept_spot, made, ready}
 use Rattle.lr_graph.specs.Legal.{accept_lines, answer_line, answers, answers_at, call_lines, delivery_lines, logged, message_lines, next_number, outcomes_of, own_lines, query_lines, reply_line, taken_at, update_lines}
 use Rattle.lr_graph.specs.Runs.{RunState, message_at}
 use Rattle.lr_graph.specs.Sets.{SpotSet, put_at, only, ◌∪◌}
 use Rattle.lr_graph.proofs.Lists.Members.{each-at, each-map, filter-each, find-some}
 use Rattle.lr_graph.proofs.Lists.Tests.{or-left, same_spot-self}
-use Rattle.lr_graph.proofs.Promised.Changes.{IsFine, IsNext, Keeps, later-self, next-accepted, next-front, next-held, next-more, next-same, next-sent, next-taken, opened-more, put-each, query-fine, update-fine}
+use Rattle.lr_graph.proofs.Promised.Changes.{IsFine, IsNext, Keeps, next-accepted, next-front, next-held, next-more, next-same, next-sent, next-taken, opened-more, put-each, query-fine, update-fine}
 use Rattle.lr_graph.proofs.Related.Relation.{IsSame, IsThere, SameMessage, SameOption, calls_in}
 use Rattle.lr_graph.proofs.Replicas.Own.{below_of-is}
 use Rattle.lr_graph.proofs.Replicas.Stepping.{lines_read-append, put-other, put-same}
