@@ -1,21 +1,25 @@
 -- How facts change, one thing at a time, and what goes on to hold of all that has a call's name and a set.
-use Rattle.std.proofs.Common.{◌≡◌, ℕ, suc, ◌≤◌, Bool, true, false, cond, ◌==◌, inr, List, [], ◌∷◌, ◌++◌, length, Option, Some, None, refl, sym, ap, ◌∙◌, subst, arith, eqb-true}
+use Rattle.std.proofs.Common.{◌≡◌, ℕ, suc, ◌≤◌, Bool, true, false, cond, ◌==◌, inr, List, [], ◌∷◌, ◌++◌, length}
+use Rattle.std.proofs.Common.{Option, Some, None, refl, sym, ap, ◌∙◌, subst, arith, eqb-true}
 use Rattle.std.proofs.lemmas.List.{append_assoc}
 use Rattle.lr_base.specs.Orders.{IsAmong}
+use Rattle.lr_base.specs.declared.events.Outcome.TheVariants.{Send}
 use Rattle.lr_base.specs.declared.events.Sent.{Sent}
 use Rattle.lr_base.specs.declared.names.Actor.{Actor}
+use Rattle.lr_base.specs.declared.names.Actor.TheVariants.{Replica}
 use Rattle.lr_base.specs.declared.names.Cid.{Cid}
 use Rattle.lr_base.specs.declared.names.Spot.{Spot}
-use Rattle.lr_graph.specs.After.{accepts, carried, causes_of}
+use Rattle.lr_graph.specs.After.{accepts, carried, causes_of, copy_of, line_read, take_read}
 use Rattle.lr_graph.specs.Closed.{Each}
-use Rattle.lr_graph.specs.Graph.{Acceptance, Carried, Facts, FrontFacts, LabelledCall, SentMessage, UpdateCopy, QueryCopy, DoneReply, AnswerReply, GossipOf, Blank}
+use Rattle.lr_graph.specs.Graph.{Acceptance, Carried, Facts, FrontFacts, Kept, LabelledCall, SentMessage}
+use Rattle.lr_graph.specs.Graph.{UpdateCopy, QueryCopy, DoneReply, AnswerReply, GossipOf, Blank}
 use Rattle.lr_graph.specs.Legal.{next_number}
 use Rattle.lr_graph.specs.Promises.{◌⊆◌}
 use Rattle.lr_graph.specs.Sets.{SpotSet, put_at, only, ◌∪◌}
-use Rattle.lr_graph.proofs.Lists.Members.{each-append, each-map}
+use Rattle.lr_graph.proofs.Lists.Members.{each-map}
 use Rattle.lr_graph.proofs.Lists.Tests.{or-left}
 use Rattle.lr_graph.proofs.Related.Relation.{calls_in}
-use Rattle.lr_graph.proofs.Replicas.Stepping.{put-other}
+use Rattle.lr_graph.proofs.Replicas.Stepping.{put-other, put-same}
 
 -- what holds of the new thing and of the others holds of each
 pub put-each : {X : Type 0} (R : ℕ → X → Type 0) (i : ℕ) (x : X) (table : ℕ → X)
@@ -39,7 +43,8 @@ pub record IsLater {Op : Type 0} (w later : Facts Op) : Type 0 where
   pub calls : (client : ℕ) → calls_in w client ≤ calls_in later client
 
 pub extends-more : {A : Type 0} (xs ys zs : List A) → Extends ys xs → Extends zs ys → Extends zs xs
-extends-more xs ys zs one two = (two.0 ++ one.0, two.1 ∙ ap (λ l. two.0 ++ l) one.1 ∙ sym (append_assoc two.0 one.0 xs))
+extends-more xs ys zs one two =
+    (two.0 ++ one.0, two.1 ∙ ap (λ l. two.0 ++ l) one.1 ∙ sym (append_assoc two.0 one.0 xs))
 
 module _ {Op : Type 0} where
   pub later-self : (w : Facts Op) → IsLater w w
@@ -65,7 +70,11 @@ module _ {Op : Type 0} where
   IsNumbered [] = Unit {0}
   IsNumbered (x ∷ older) = (x.number ≡ suc (length older)) × IsNumbered older
 
-  -- P holds of what a message carries: its call's label, or what it was answered from;
+  -- a message that carries this was sent
+  abbrev pub WasSent : List (SentMessage Op) → Carried Op → Type 0
+  WasSent messages what = (x : SentMessage Op) × IsAmong x messages × (x.what ≡ what)
+
+  -- P holds of what a message carries: of its call's label, or of what an answer was read after;
   -- and what is done is what is below an acceptance of the call
   abbrev pub IsFine : (Cid → SpotSet → Type 0) → List (Acceptance Op) → Carried Op → Type 0
   IsFine P l (UpdateCopy call time) = P call.cid call.label
@@ -80,46 +89,65 @@ module _ {Op : Type 0} where
   IsOpenFine P O client None = Unit {0}
   IsOpenFine P O client (Some call) = P call.cid call.label × O client call.cid
 
-  -- P holds of all that has a call's name and a set
+  -- P holds of all that has a call's name and a set; what is held was sent
   pub record Holds (P : Cid → SpotSet → Type 0) (O : ℕ → Cid → Type 0) (w : Facts Op) : Type 0 where
     pub accepted : Each (λ a. P a.cid a.below) w.accepted
     pub messages : Each (λ x. IsFine P w.accepted x.what) w.messages
-    pub held : (i : ℕ) → Each (λ call. P call.cid call.label) (w.held i)
+    pub held : (i : ℕ) → Each (λ call. P call.cid call.label × WasSent w.messages (QueryCopy call)) (w.held i)
     pub opened : (client : ℕ) → IsOpenFine P O client (w.front client).open_call
     pub numbered : IsNumbered w.messages
 
-  pub fine-more : (P Q : Cid → SpotSet → Type 0) (l more : List (Acceptance Op)) → ((a : Acceptance Op) → IsAmong a l → IsAmong a more)
-      → ((cid : Cid) (x : SpotSet) → P cid x → Q cid x) → (what : Carried Op) → IsFine P l what → IsFine Q more what
-  fine-more P Q l more into f (UpdateCopy call time) h = f call.cid call.label h
-  fine-more P Q l more into f (QueryCopy call) h = f call.cid call.label h
-  fine-more P Q l more into f (DoneReply cid names) h = (h.0, into h.0 h.1, h.2, h.3)
-  fine-more P Q l more into f (AnswerReply cid names) h = f cid names h
-  fine-more P Q l more into f (GossipOf names) h = tt
-  fine-more P Q l more into f Blank h = tt
+  -- what P gives, where nothing that was accepted is lost
+  module _ (P Q : Cid → SpotSet → Type 0) (up : (cid : Cid) (x : SpotSet) → P cid x → Q cid x) where
+    pub fine-more : (l more : List (Acceptance Op)) → ((a : Acceptance Op) → IsAmong a l → IsAmong a more)
+        → (what : Carried Op) → IsFine P l what → IsFine Q more what
+    fine-more l more into (UpdateCopy call time) h = up call.cid call.label h
+    fine-more l more into (QueryCopy call) h = up call.cid call.label h
+    fine-more l more into (DoneReply cid names) h = (h.0, into h.0 h.1, h.2, h.3)
+    fine-more l more into (AnswerReply cid names) h = up cid names h
+    fine-more l more into (GossipOf names) h = tt
+    fine-more l more into Blank h = tt
 
-  pub opened-more : (P Q : Cid → SpotSet → Type 0) (O : ℕ → Cid → Type 0) → ((cid : Cid) (x : SpotSet) → P cid x → Q cid x)
-      → (client : ℕ) (o : Option (LabelledCall Op)) → IsOpenFine P O client o → IsOpenFine Q O client o
-  opened-more P Q O f client None h = tt
-  opened-more P Q O f client (Some call) h = (f call.cid call.label h.0, h.1)
+    pub opened-more : (O : ℕ → Cid → Type 0) (client : ℕ) (o : Option (LabelledCall Op)) → IsOpenFine P O client o
+        → IsOpenFine Q O client o
+    opened-more O client None h = tt
+    opened-more O client (Some call) h = (up call.cid call.label h.0, h.1)
+
+    pub holds-more : (O R : ℕ → Cid → Type 0) (w : Facts Op)
+        → ((client : ℕ) → IsOpenFine P O client (w.front client).open_call → IsOpenFine Q R client (w.front client).open_call)
+        → Holds P O w → Holds Q R w
+    holds-more O R w open_up h = record {
+      accepted = each-map _ _ w.accepted (λ a f. up a.cid a.below f) h.accepted;
+      messages = each-map _ _ w.messages (λ x f. fine-more w.accepted w.accepted (λ a in_a. in_a) x.what f) h.messages;
+      held = λ i. each-map _ _ (w.held i) (λ c f. (up c.cid c.label f.0, f.1)) (h.held i);
+      opened = λ client. open_up client (h.opened client);
+      numbered = h.numbered;
+    }
 
   -- what is sent of an open call is fine
-  pub update-fine : (P : Cid → SpotSet → Type 0) (O : ℕ → Cid → Type 0) (l : List (Acceptance Op)) (client time : ℕ) (o : Option (LabelledCall Op))
-      → IsOpenFine P O client o → IsFine P l (Rattle.lr_graph.specs.After.copy_of o (λ call. UpdateCopy call time))
-  update-fine P O l client time None h = tt
-  update-fine P O l client time (Some call) h = h.0
+  module _ (P : Cid → SpotSet → Type 0) (O : ℕ → Cid → Type 0) (l : List (Acceptance Op)) (client : ℕ) where
+    pub update-fine : (time : ℕ) (o : Option (LabelledCall Op)) → IsOpenFine P O client o
+        → IsFine P l (copy_of o (λ call. UpdateCopy call time))
+    update-fine time None h = tt
+    update-fine time (Some call) h = h.0
 
-  pub query-fine : (P : Cid → SpotSet → Type 0) (O : ℕ → Cid → Type 0) (l : List (Acceptance Op)) (client : ℕ) (o : Option (LabelledCall Op))
-      → IsOpenFine P O client o → IsFine P l (Rattle.lr_graph.specs.After.copy_of o QueryCopy)
-  query-fine P O l client None h = tt
-  query-fine P O l client (Some call) h = h.0
+    pub query-fine : (o : Option (LabelledCall Op)) → IsOpenFine P O client o → IsFine P l (copy_of o QueryCopy)
+    query-fine None h = tt
+    query-fine (Some call) h = h.0
 
--- F says, for counts of calls, what holds of a call's name and its set: of greater counts and greater sets too
-module _ {Op : Type 0} (F : (ℕ → ℕ) → Cid → SpotSet → Type 0) (O : ℕ → Cid → Type 0)
-    (counts : (n more : ℕ → ℕ) → ((client : ℕ) → n client ≤ more client) → (cid : Cid) (x : SpotSet) → F n cid x → F more cid x)
-    (grows : (n : ℕ → ℕ) (cid : Cid) (x y : SpotSet) → F n cid x → F n cid (x ∪ y)) where
-  -- it holds of these facts
+-- what is to hold, for counts of calls, of a call's name and its set, and of the name of an open call;
+-- it holds of greater counts, and of greater sets
+pub record Rule : Type 1 where
+  pub of : (ℕ → ℕ) → Cid → SpotSet → Type 0
+  pub of_open : ℕ → Cid → Type 0
+  pub counts : (n more : ℕ → ℕ) → ((client : ℕ) → n client ≤ more client) → (cid : Cid) (x : SpotSet)
+      → of n cid x → of more cid x
+  pub grows : (n : ℕ → ℕ) (cid : Cid) (x y : SpotSet) → of n cid x → of n cid (x ∪ y)
+
+module _ {Op : Type 0} (R : Rule) where
+  -- the rule holds of these facts
   abbrev pub Keeps : Facts Op → Type 0
-  Keeps w = Holds (F (calls_in w)) O w
+  Keeps w = Holds (R.of (calls_in w)) R.of_open w
 
   -- facts that come next: what replicas have changes at this one alone
   pub record IsNext (at : Option ℕ) (w next : Facts Op) : Type 0 where
@@ -131,8 +159,8 @@ module _ {Op : Type 0} (F : (ℕ → ℕ) → Cid → SpotSet → Type 0) (O : �
     pub next-same : IsNext at w w
     next-same = record { later = later-self w; keeps = h; others = λ j apart. (refl, refl) }
 
-    pub next-sent : (from to : Actor) (what : Sent) → IsFine (F (calls_in w)) w.accepted (carried w from what)
-        → IsNext at w (record w { messages = record { number = next_number w; from = from; to = to; what = carried w from what } ∷ w.messages })
+    pub next-sent : (from to : Actor) (what : Sent) → IsFine (R.of (calls_in w)) w.accepted (carried w from what)
+        → IsNext at w (line_read None w (Send (next_number w) from to what))
     next-sent from to what fine = record {
       later = record {
         accepted = ([], refl);
@@ -141,18 +169,29 @@ module _ {Op : Type 0} (F : (ℕ → ℕ) → Cid → SpotSet → Type 0) (O : �
         label = λ j s e. e;
         calls = λ j. omega arith;
       };
-      keeps = record { accepted = h.accepted; messages = (fine, h.messages); held = h.held; opened = h.opened; numbered = (refl, h.numbered) };
+      keeps = record {
+        accepted = h.accepted;
+        messages = (fine, h.messages);
+        held = λ i. each-map _ _ (w.held i) (λ c f. (f.0, (f.1.0, inr f.1.1, f.1.2))) (h.held i);
+        opened = h.opened;
+        numbered = (refl, h.numbered);
+      };
       others = λ j apart. (refl, refl);
     }
 
     -- a front end changes
-    pub next-front : (client : ℕ) (new : FrontFacts Op) → (w.front client).label ⊆ new.label → calls_in w client ≤ new.calls
-        → IsOpenFine (F (λ j. (put_at client new w.front j).calls)) O client new.open_call
+    pub next-front : (client : ℕ) (new : FrontFacts Op) → (w.front client).label ⊆ new.label
+        → calls_in w client ≤ new.calls
+        → (((n : ℕ → ℕ) → ((j : ℕ) → calls_in w j ≤ n j) → n client ≡ new.calls
+        → IsOpenFine (R.of n) R.of_open client new.open_call))
         → IsNext at w (record w { front = put_at client new w.front })
     next-front client new label calls opened =
         let next : Facts Op = record w { front = put_at client new w.front } in
-        let more : ((j : ℕ) → calls_in w j ≤ calls_in next j) = put-each (λ j f. calls_in w j ≤ f.calls) client new w.front calls (λ j. omega arith) in
-        let up = counts (calls_in w) (calls_in next) more in
+        let more : ((j : ℕ) → calls_in w j ≤ calls_in next j) =
+            put-each (λ j f. calls_in w j ≤ f.calls) client new w.front calls (λ j. omega arith) in
+        let up = R.counts (calls_in w) (calls_in next) more in
+        let kept = holds-more (R.of (calls_in w)) (R.of (calls_in next)) up R.of_open R.of_open w
+                (λ j. opened-more (R.of (calls_in w)) (R.of (calls_in next)) up R.of_open j (w.front j).open_call) h in
         record {
           later = record {
             accepted = ([], refl);
@@ -162,67 +201,97 @@ module _ {Op : Type 0} (F : (ℕ → ℕ) → Cid → SpotSet → Type 0) (O : �
             calls = more;
           };
           keeps = record {
-            accepted = each-map _ _ w.accepted (λ a f. up a.cid a.below f) h.accepted;
-            messages = each-map _ _ w.messages (λ x f. fine-more (F (calls_in w)) (F (calls_in next)) w.accepted w.accepted (λ a m. m) up x.what f) h.messages;
-            held = λ i. each-map _ _ (w.held i) (λ c f. up c.cid c.label f) (h.held i);
-            opened = put-each (λ j f. IsOpenFine (F (calls_in next)) O j f.open_call) client new w.front opened
-                (λ j. opened-more (F (calls_in w)) (F (calls_in next)) O up j (w.front j).open_call (h.opened j));
-            numbered = h.numbered;
+            accepted = kept.accepted;
+            messages = kept.messages;
+            held = kept.held;
+            opened = put-each (λ j f. IsOpenFine (R.of (calls_in next)) R.of_open j f.open_call) client new w.front
+                (opened (calls_in next) more (ap (λ (f : FrontFacts Op). f.calls) (put-same client new w.front))) kept.opened;
+            numbered = kept.numbered;
           };
           others = λ j apart. (refl, refl);
         }
 
   module _ (i : ℕ) (w : Facts Op) (h : Keeps w) where
-    pub next-accepted : (spot : Spot) (call : LabelledCall Op) → F (calls_in w) call.cid call.label → IsNext (Some i) w (accepts w i spot call)
+    -- more is received
+    more-received : (set : SpotSet) (j : ℕ) → w.received j ⊆ put_at i (w.received i ∪ set) w.received j
+    more-received set =
+        put-each (λ j r. w.received j ⊆ r) i (w.received i ∪ set) w.received (λ s e. or-left _ _ e) (λ j s e. e)
+
+    elsewhere : {X : Type 0} (x : X) (table : ℕ → X) (j : ℕ) → (Some i ≡ Some j → ⊥) → put_at i x table j ≡ table j
+    elsewhere x table j apart = put-other i j x table (λ e. apart (ap Some (sym e)))
+
+    pub next-accepted : (spot : Spot) (call : LabelledCall Op) → R.of (calls_in w) call.cid call.label
+        → IsNext (Some i) w (accepts w i spot call)
     next-accepted spot call fine =
-        let a : Acceptance Op = record { spot = spot; cid = call.cid; op = call.op; below = causes_of call ∪ only spot } in
+        let a : Acceptance Op =
+            record { spot = spot; cid = call.cid; op = call.op; below = causes_of call ∪ only spot } in
+        let more = fine-more (R.of (calls_in w)) _ (λ c y p. p) w.accepted (a ∷ w.accepted) (λ b m. inr m) in
         record {
           later = record {
             accepted = (a ∷ [], refl);
             messages = ([], refl);
-            received = put-each (λ j r. w.received j ⊆ r) i (w.received i ∪ only spot) w.received (λ s e. or-left _ _ e) (λ j s e. e);
+            received = more-received (only spot);
             label = λ j s e. e;
             calls = λ j. omega arith;
           };
           keeps = record {
+            accepted = (R.grows (calls_in w) call.cid call.label (only spot) fine, h.accepted);
+            messages = each-map _ _ w.messages (λ x f. more x.what f) h.messages;
             held = h.held;
             opened = h.opened;
             numbered = h.numbered;
-            accepted = (grows (calls_in w) call.cid call.label (only spot) fine, h.accepted);
-            messages = each-map _ _ w.messages (λ x f. fine-more (F (calls_in w)) (F (calls_in w)) w.accepted (a ∷ w.accepted) (λ b m. inr m) (λ c y p. p) x.what f) h.messages;
           };
-          others = λ j apart. (put-other i j (w.received i ∪ only spot) w.received (λ e. apart (ap Some (sym e))), refl);
+          others = λ j apart. (elsewhere (w.received i ∪ only spot) w.received j apart, refl);
         }
 
-    pub next-held : (call : LabelledCall Op) → F (calls_in w) call.cid call.label → IsNext (Some i) w (record w { held = put_at i (w.held i ++ call ∷ []) w.held })
-    next-held call fine = record {
-      later = record { accepted = ([], refl); messages = ([], refl); received = λ j s e. e; label = λ j s e. e; calls = λ j. omega arith };
-      keeps = record {
-        accepted = h.accepted;
-        messages = h.messages;
-        opened = h.opened;
-        numbered = h.numbered;
-        held = put-each (λ j cs. Each (λ c. F (calls_in w) c.cid c.label) cs) i (w.held i ++ call ∷ []) w.held (each-append _ (w.held i) (call ∷ []) (h.held i) (fine, tt)) h.held;
-      };
-      others = λ j apart. (refl, put-other i j (w.held i ++ call ∷ []) w.held (λ e. apart (ap Some (sym e))));
-    }
-
-    pub next-taken : (names : SpotSet) → IsNext (Some i) w (record w { received = put_at i (w.received i ∪ names) w.received })
+    pub next-taken : (names : SpotSet) → IsNext (Some i) w (take_read w (Replica i) (GossipOf names))
     next-taken names = record {
       later = record {
         accepted = ([], refl);
         messages = ([], refl);
-        received = put-each (λ j r. w.received j ⊆ r) i (w.received i ∪ names) w.received (λ s e. or-left _ _ e) (λ j s e. e);
+        received = more-received names;
         label = λ j s e. e;
         calls = λ j. omega arith;
       };
-      keeps = record { accepted = h.accepted; messages = h.messages; held = h.held; opened = h.opened; numbered = h.numbered };
-      others = λ j apart. (put-other i j (w.received i ∪ names) w.received (λ e. apart (ap Some (sym e))), refl);
+      keeps = record {
+        accepted = h.accepted;
+        messages = h.messages;
+        held = h.held;
+        opened = h.opened;
+        numbered = h.numbered;
+      };
+      others = λ j apart. (elsewhere (w.received i ∪ names) w.received j apart, refl);
     }
 
-  pub next-more : (at : Option ℕ) (w v u : Facts Op) → IsNext at w v → IsNext at v u → IsNext at w u
-  next-more at w v u one two = record {
+    -- what a replica holds and keeps changes
+    pub next-holding : (calls : List (LabelledCall Op)) (kept : ℕ → List Kept)
+        → Each (λ c. R.of (calls_in w) c.cid c.label × WasSent w.messages (QueryCopy c)) calls
+        → IsNext (Some i) w (record w { held = put_at i calls w.held; kept = kept })
+    next-holding calls kept fine = record {
+      later = record {
+        accepted = ([], refl);
+        messages = ([], refl);
+        received = λ j s e. e;
+        label = λ j s e. e;
+        calls = λ j. omega arith;
+      };
+      keeps = record {
+        accepted = h.accepted;
+        messages = h.messages;
+        held = put-each (λ j cs. Each (λ c. R.of (calls_in w) c.cid c.label × WasSent w.messages (QueryCopy c)) cs) i
+            calls w.held fine h.held;
+        opened = h.opened;
+        numbered = h.numbered;
+      };
+      others = λ j apart. (refl, elsewhere calls w.held j apart);
+    }
+
+  pub next-more : (at : Option ℕ) (w v u : Facts Op) → IsNext at w v → (Keeps v → IsNext at v u) → IsNext at w u
+  next-more at w v u one then = let two = then one.keeps in record {
     later = later-more w v u one.later two.later;
     keeps = two.keeps;
-    others = λ j apart. ((two.others j apart).0 ∙ (one.others j apart).0, (two.others j apart).1 ∙ (one.others j apart).1);
+    others = λ j apart. (
+      (two.others j apart).0 ∙ (one.others j apart).0,
+      (two.others j apart).1 ∙ (one.others j apart).1,
+    );
   }
