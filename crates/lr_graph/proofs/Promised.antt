@@ -6,3 +6,4 @@ pub mod Sessions
 pub mod Later
 pub mod Alike
 pub mod Rounds
+pub mod Spoken

@@ -1,5 +1,6 @@
 -- What clients are told in a history: the replies that they take, with the sets that these stand for.
 use Rattle.std.specs.Prelude.{◌≡◌, ◌≢◌, ◌<◌, ℕ, true, List, ◌∷◌, ◌++◌, Some}
+use Rattle.lr_base.specs.Meaning.{Meaning}
 use Rattle.lr_base.specs.Orders.{IsAmong}
 use Rattle.lr_base.specs.declared.events.Event.TheVariants.{Call, Deliver, Gossip as GossipEvent}
 use Rattle.lr_base.specs.declared.events.Outcome.TheVariants.{Send, Got}
@@ -12,7 +13,8 @@ use Rattle.lr_base.specs.declared.names.Spot.{Spot}
 use Rattle.lr_graph.specs.After.{delivery_of}
 use Rattle.lr_graph.specs.Central.{facts_after}
 use Rattle.lr_graph.specs.Closed.{Each}
-use Rattle.lr_graph.specs.Graph.{Carried, Facts, SentMessage, DoneReply, AnswerReply, first_facts}
+use Rattle.lr_graph.specs.Graph.{Carried, Facts, LabelledCall, SentMessage, QueryCopy, DoneReply, AnswerReply}
+use Rattle.lr_graph.specs.Graph.{first_facts, value}
 use Rattle.lr_graph.specs.Sets.{SpotSet}
 
 -- the facts of a history
@@ -40,6 +42,16 @@ TakesDone before step client cid names = Takes before step client cid (DoneReply
 -- a client is told the answer to its query: it was read after what this set names
 abbrev pub TakesAnswer : {Op : Type 0} → List (Step Op) → Step Op → ℕ → Cid → SpotSet → Type 0
 TakesAnswer before step client cid names = Takes before step client cid (AnswerReply cid names)
+
+-- the text is what the service reads after the set, for the query of this name, a copy of which was sent
+pub record IsReadAfter {Value Op : Type 0} (m : Meaning Value Op) (w : Facts Op) (set : SpotSet) (cid : Cid)
+    (text : List ℕ) : Type 0 where
+  pub call : LabelledCall Op
+  pub copy : SentMessage Op
+  pub sent : IsAmong copy w.messages
+  pub what : copy.what ≡ QueryCopy call
+  pub name : call.cid ≡ cid
+  pub text_is : text ≡ m.read (value m w.accepted set) call.op
 
 -- in this step a client calls an update, and sends it
 pub record CallsUpdate {Op : Type 0} (step : Step Op) (client : ℕ) (cid : Cid) : Type 0 where

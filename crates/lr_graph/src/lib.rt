@@ -13,8 +13,9 @@ pub use laws::{
     stamps_stand_for_sets, what_is_made_is_legal,
 };
 pub use promises::{
-    causes_come_first, clients_read_their_writes, one_round_of_gossip_is_enough,
-    reads_are_monotonic, replicas_converge, writes_are_monotonic, writes_follow_reads,
+    answers_are_read_after_what_is_ready, causes_come_first, clients_read_their_writes,
+    one_round_of_gossip_is_enough, reads_are_monotonic, replicas_converge, writes_are_monotonic,
+    writes_follow_reads,
 };
 pub use slow::{ready_of, value_of};
 pub use worked::{

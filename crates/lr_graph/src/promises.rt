@@ -2,17 +2,40 @@
 ghost use Rattle.std.specs.Prelude.{◌≡◌, ◌<◌, ◌++◌, ◌∷◌, ℕ, [], true, List};
 ghost use Rattle.lr_base.specs.Events.{IsEventOf};
 ghost use Rattle.lr_base.specs.Orders.{IsAmong};
+ghost use Rattle.lr_base.specs.declared.events.Event.TheVariants.{Deliver};
+ghost use Rattle.lr_base.specs.declared.events.Outcome.TheVariants.{Send};
+ghost use Rattle.lr_base.specs.declared.events.Sent.TheVariants.{Answer};
+ghost use Rattle.lr_base.specs.declared.names.Actor.TheVariants.{Client, Replica};
 ghost use Rattle.lr_graph.specs.Closed.{Each};
 ghost use Rattle.lr_graph.specs.Graph.{Acceptance, has_call, ready, value};
 ghost use Rattle.lr_graph.specs.Legal.{IsLegal};
 ghost use Rattle.lr_graph.specs.Orderings.{FollowsCauses, everything, ready_as_made};
-ghost use Rattle.lr_graph.specs.Promises.{◌⊆◌, CallsUpdate, HasReceivedAll, HaveReceivedAlike, IsRound};
-ghost use Rattle.lr_graph.specs.Promises.{TakesAnswer, TakesDone, facts_of};
+ghost use Rattle.lr_graph.specs.Promises.{◌⊆◌, CallsUpdate, HasReceivedAll, HaveReceivedAlike, IsReadAfter};
+ghost use Rattle.lr_graph.specs.Promises.{IsRound, TakesAnswer, TakesDone, facts_of};
 ghost use Rattle.lr_graph.specs.Sets.{SpotSet};
 ghost use Rattle.lr_graph.specs.Slow.{value_after};
 
 use lr_base::lr_service::Service;
 use lr_base::{Cid, Config, Step};
+
+/// What answers say: an answer that a client takes was read after what was ready at its replica when it was sent, and
+/// its text is what the service reads after just that set.
+pub fn answers_are_read_after_what_is_ready<S: Service>()
+    ensures ready { (config : Config) (before between later : List (Step S.Op)) (sending answer : Step S.Op)
+        (number i client : ℕ) (cid : Cid) (text : List ℕ) (seen : SpotSet)
+        → Each (λ step. IsEventOf S.meaning config step.event) (before ++ sending ∷ between ++ answer ∷ later)
+        → IsLegal S.meaning config (before ++ sending ∷ between ++ answer ∷ later)
+        → IsAmong (Send number (Replica i) (Client client) (Answer cid text)) sending.outcomes
+        → answer.event ≡ Deliver number → TakesAnswer (before ++ sending ∷ between) answer client cid seen
+        → seen ≡ ready (facts_of (before ++ sending ∷ [])).accepted ((facts_of (before ++ sending ∷ [])).received i) }
+    ensures text { (config : Config) (before between later : List (Step S.Op)) (sending answer : Step S.Op)
+        (number i client : ℕ) (cid : Cid) (text : List ℕ) (seen : SpotSet)
+        → Each (λ step. IsEventOf S.meaning config step.event) (before ++ sending ∷ between ++ answer ∷ later)
+        → IsLegal S.meaning config (before ++ sending ∷ between ++ answer ∷ later)
+        → IsAmong (Send number (Replica i) (Client client) (Answer cid text)) sending.outcomes
+        → answer.event ≡ Deliver number → TakesAnswer (before ++ sending ∷ between) answer client cid seen
+        → IsReadAfter S.meaning (facts_of (before ++ sending ∷ [])) seen cid text }
+{}
 
 /// Read your writes: each answer that a client takes was read after all of its updates that it was told are done,
 /// and after all that these stand for.
@@ -96,7 +119,7 @@ pub fn causes_come_first<S: Service>()
 pub fn replicas_converge<S: Service>()
     ensures ready { (steps : List (Step S.Op)) (i j : ℕ) → HaveReceivedAlike (facts_of steps) i j
         → ready (facts_of steps).accepted ((facts_of steps).received i)
-            ≡ ready (facts_of steps).accepted ((facts_of steps).received j) }
+        ≡ ready (facts_of steps).accepted ((facts_of steps).received j) }
     ensures value { (steps : List (Step S.Op)) (i j : ℕ) → HaveReceivedAlike (facts_of steps) i j
         → value_after S.meaning steps i ≡ value_after S.meaning steps j }
     ensures answer { (steps : List (Step S.Op)) (i j : ℕ) (op : S.Op) → HaveReceivedAlike (facts_of steps) i j

@@ -1,6 +1,6 @@
 -- How facts change, one thing at a time, and what goes on to hold of all that has a call's name and a set.
-use Rattle.std.proofs.Common.{◌≡◌, ℕ, suc, ◌≤◌, Bool, true, false, cond, ◌==◌, inr, List, [], ◌∷◌, ◌++◌, length}
-use Rattle.std.proofs.Common.{Option, Some, None, refl, sym, ap, ◌∙◌, subst, arith, eqb-true}
+use Rattle.std.proofs.Common.{◌≡◌, ℕ, suc, ◌≤◌, Bool, true, false, cond, ◌==◌, find, inl, inr, List, [], ◌∷◌, ◌++◌, length}
+use Rattle.std.proofs.Common.{Option, Some, None, refl, sym, ap, ◌∙◌, subst, arith, eq-eqb, eqb-true}
 use Rattle.std.proofs.lemmas.List.{append_assoc}
 use Rattle.lr_base.specs.Orders.{IsAmong}
 use Rattle.lr_base.specs.declared.events.Outcome.TheVariants.{Send}
@@ -17,7 +17,7 @@ use Rattle.lr_graph.specs.Legal.{next_number}
 use Rattle.lr_graph.specs.Promises.{◌⊆◌}
 use Rattle.lr_graph.specs.Sets.{SpotSet, put_at, only, ◌∪◌}
 use Rattle.lr_graph.proofs.Lists.Members.{each-map}
-use Rattle.lr_graph.proofs.Lists.Tests.{or-left}
+use Rattle.lr_graph.proofs.Lists.Tests.{never, or-left}
 use Rattle.lr_graph.proofs.Related.Relation.{calls_in}
 use Rattle.lr_graph.proofs.Replicas.Stepping.{put-other, put-same}
 
@@ -69,6 +69,25 @@ module _ {Op : Type 0} where
   abbrev pub IsNumbered : List (SentMessage Op) → Type 0
   IsNumbered [] = Unit {0}
   IsNumbered (x ∷ older) = (x.number ≡ suc (length older)) × IsNumbered older
+
+  numbered-most : (x : SentMessage Op) (messages : List (SentMessage Op)) → IsNumbered messages → IsAmong x messages
+      → x.number ≤ length messages
+  numbered-most x [] numbered among = absurd among
+  numbered-most x (y ∷ older) numbered (inl e) = let same = ap (λ (z : SentMessage Op). z.number) e in let n = numbered.0 in omega arith
+  numbered-most x (y ∷ older) numbered (inr among) = let most = numbered-most x older numbered.1 among in omega arith
+
+  -- a message is found by its number
+  pub found-among : (x : SentMessage Op) (messages : List (SentMessage Op)) → IsNumbered messages → IsAmong x messages
+      → find (λ y. y.number == x.number) messages ≡ Some x
+  found-among x [] numbered among = absurd among
+  found-among x (y ∷ older) numbered (inl e) =
+      ap (λ t. cond t (Some y) (find (λ z. z.number == x.number) older)) (eq-eqb y.number x.number (ap (λ (z : SentMessage Op). z.number) (sym e)))
+      ∙ ap Some (sym e)
+  found-among x (y ∷ older) numbered (inr among) =
+      let most = numbered-most x older numbered.1 among in
+      let n = numbered.0 in
+      let apart = never (y.number == x.number) (λ e. let same = eqb-true y.number x.number e in absurd (omega arith)) in
+      ap (λ t. cond t (Some y) (find (λ z. z.number == x.number) older)) apart ∙ found-among x older numbered.1 among
 
   -- a message that carries this was sent
   abbrev pub WasSent : List (SentMessage Op) → Carried Op → Type 0
@@ -188,10 +207,10 @@ module _ {Op : Type 0} (R : Rule) where
     next-front client new label calls opened =
         let next : Facts Op = record w { front = put_at client new w.front } in
         let more : ((j : ℕ) → calls_in w j ≤ calls_in next j) =
-            put-each (λ j f. calls_in w j ≤ f.calls) client new w.front calls (λ j. omega arith) in
+        put-each (λ j f. calls_in w j ≤ f.calls) client new w.front calls (λ j. omega arith) in
         let up = R.counts (calls_in w) (calls_in next) more in
         let kept = holds-more (R.of (calls_in w)) (R.of (calls_in next)) up R.of_open R.of_open w
-                (λ j. opened-more (R.of (calls_in w)) (R.of (calls_in next)) up R.of_open j (w.front j).open_call) h in
+        (λ j. opened-more (R.of (calls_in w)) (R.of (calls_in next)) up R.of_open j (w.front j).open_call) h in
         record {
           later = record {
             accepted = ([], refl);
@@ -224,7 +243,7 @@ module _ {Op : Type 0} (R : Rule) where
         → IsNext (Some i) w (accepts w i spot call)
     next-accepted spot call fine =
         let a : Acceptance Op =
-            record { spot = spot; cid = call.cid; op = call.op; below = causes_of call ∪ only spot } in
+        record { spot = spot; cid = call.cid; op = call.op; below = causes_of call ∪ only spot } in
         let more = fine-more (R.of (calls_in w)) _ (λ c y p. p) w.accepted (a ∷ w.accepted) (λ b m. inr m) in
         record {
           later = record {

@@ -94,11 +94,11 @@ module _ {Value Op : Type 0} (m : Meaning Value Op) (kind_of : Op → Kind) (law
       let at = any-point m kind_of lawful config before fit.0 parts.0 in
       let took = takes-taken before between one legal client cid names reply is takes in
       let told = taken-told m kind_of lawful config w at.0 at.1 one fit.1.0 parts.1.0 client cid names takes.message
-              (subst (IsReply cid names) (sym takes.what) is) took in
+      (subst (IsReply cid names) (sym takes.what) is) took in
       let now = told-later m config client (calls_in (after w one) client) names kind_of lawful between (after w one)
-              (stepped m at.0 one.event).run told.0 told.1 fit.1.1 parts.1.1 in
+      (stepped m at.0 one.event).run told.0 told.1 fit.1.1 parts.1.1 in
       let same : facts_of (before ++ one ∷ between) ≡ facts_after (after w one) between =
-          facts-parts before (one ∷ between) first_facts in
+      facts-parts before (one ∷ between) first_facts in
       subst (KnowsAt client names) (sym same)
       (record { k = calls_in (after w one) client; run = now.0; point = now.1; told = now.2 })
 
@@ -130,9 +130,9 @@ module _ {Value Op : Type 0} (m : Meaning Value Op) (kind_of : Op → Kind) (law
         let call = got.taken.call in
         let rule = above client knows.k names in
         let fine = subst (IsFine (rule.of (calls_in w)) w.accepted) takes.what
-                (each-at _ takes.message w.messages knows.told.keeps.messages got.among) in
+        (each-at _ takes.message w.messages knows.told.keeps.messages got.among) in
         let opened = subst (IsOpenFine (rule.of (calls_in w)) rule.of_open client) got.taken.opened
-                (knows.told.keeps.opened client) in
+        (knows.told.keeps.opened client) in
         let named = got.taken.is in
         fine (ap (λ (cid : Cid). cid.client) (sym named) ∙ opened.1.0)
         (subst (λ (cid : Cid). knows.k < cid.seq) named (opened.1.1 refl))
@@ -143,9 +143,9 @@ module _ {Value Op : Type 0} (m : Meaning Value Op) (kind_of : Op → Kind) (law
     told-update calls a member of =
         let parts = legal-parts m config start (other ∷ later) first_facts legal in
         let last = told-later m config client knows.k names kind_of lawful (other ∷ later) w knows.run knows.point
-                knows.told first_fits.1 parts.1 in
+        knows.told first_fits.1 parts.1 in
         let named = of ∙ call-named m w client calls.replica _ calls.op _ _ calls.number calls.time _ _ second
-                (subst (IsAmong _) (parts.1.0 ∙ ap (outcomes_of m config w) calls.event) calls.sent) in
+        (subst (IsAmong _) (parts.1.0 ∙ ap (outcomes_of m config w) calls.event) calls.sent) in
         let among = subst (λ (v : Facts Op). IsAmong a v.accepted) (facts-parts start (other ∷ later) first_facts) member in
         let past = ap (λ (cid : Cid). cid.seq) named in
         let most = knows.told.calls in
@@ -161,6 +161,6 @@ module _ {Value Op : Type 0} (m : Meaning Value Op) (kind_of : Op → Kind) (law
         let at = any-point m kind_of lawful config before fit.0 parts.0 in
         let got = takes-taken before between one first_legal client first names reply is took in
         let a = subst (IsFine (fresh.of (calls_in u)) u.accepted) (took.what ∙ is_done)
-                (each-at _ took.message u.messages at.1.keeps.messages got.among) in
+        (each-at _ took.message u.messages at.1.keeps.messages got.among) in
         let self = self-below u.accepted at.1.same.shared.sound.older a.0 a.1 in
         holds-has_call u.accepted set first a.0 a.1 (within _ (ap (λ x. x a.0.spot) (sym a.3) ∙ self)) a.2

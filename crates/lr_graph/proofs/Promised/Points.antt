@@ -101,9 +101,9 @@ module _ {Value Op : Type 0} (m : Meaning Value Op) (kind_of : Op → Kind) (law
       let run = (stepped m v step.event).run in
       let ended = λ (lines : List Outcome). after w (record { event = step.event; outcomes = lines }) in
       let same = subst (λ lines. IsSame m config (ended lines) run) (sym legal)
-              (same-step m kind_of lawful config w v p.same step.event fits).same in
+      (same-step m kind_of lawful config w v p.same step.event fits).same in
       let next = step-next m config fresh w v p.keeps p.same (λ n cid x r f e. f)
-              (λ n client cid own seq e. (let i = ap n own in omega arith, own)) step legal (λ n cid x r f e. f) in
+      (λ n client cid own seq e. (let i = ap n own in omega arith, own)) step legal (λ n cid x r f e. f) in
       (record { same = same; keeps = next.keeps }, next)
 
   -- a later point of a legal history

@@ -1,8 +1,7 @@
 -- Where each replica's gossip reaches each other, all have received all, and no query is held.
 use Rattle.std.proofs.Common.{◌≡◌, ◌≢◌, ℕ, suc, ◌<◌, ◌==◌, Bool, true, false, cond, not, ◌&&◌, ◌||◌, filter, find, ◌⊎◌}
-use Rattle.std.proofs.Common.{inl, inr, List, [], ◌∷◌, ◌++◌, length, Option, Some, None, refl, sym, ap, ◌∙◌, subst}
-use Rattle.std.proofs.Common.{true≢false, arith, eq-eqb, eqb-true}
-use Rattle.std.proofs.lemmas.List.{length-append}
+use Rattle.std.proofs.Common.{inl, inr, List, [], ◌∷◌, ◌++◌, Option, Some, None, refl, sym, ap, ◌∙◌, subst}
+use Rattle.std.proofs.Common.{true≢false}
 use Rattle.std.proofs.lemmas.List.Folds.{list_all-append}
 use Rattle.std.specs.List.{list_all}
 use Rattle.lr_base.specs.Events.{IsEventOf}
@@ -25,9 +24,9 @@ use Rattle.lr_graph.specs.Legal.{IsLegal, LegalFrom, answer_line, answers, deliv
 use Rattle.lr_graph.specs.Promises.{◌⊆◌, HasGossiped, HasReceivedAll, IsRound, facts_of}
 use Rattle.lr_graph.specs.Runs.{RunState, first_run, stepped}
 use Rattle.lr_graph.specs.Sets.{SpotSet, ◌∪◌}
-use Rattle.lr_graph.proofs.Lists.Members.{each-at, each-from, each-map, filter-each}
-use Rattle.lr_graph.proofs.Lists.Tests.{equal-or-not, never, not-false, or-right}
-use Rattle.lr_graph.proofs.Promised.Changes.{Extends, IsNumbered, extends-more}
+use Rattle.lr_graph.proofs.Lists.Members.{among-right, each-at, each-from, each-map, filter-each}
+use Rattle.lr_graph.proofs.Lists.Tests.{equal-or-not, not-false, or-right}
+use Rattle.lr_graph.proofs.Promised.Changes.{Extends, IsNumbered, extends-more, found-among}
 use Rattle.lr_graph.proofs.Promised.Points.{Fits, IsPoint, any-point, each-parts, facts-parts, first-point, later-point}
 use Rattle.lr_graph.proofs.Promised.Points.{legal-parts, step-point}
 use Rattle.lr_graph.proofs.Promised.Walk.{after-ended, own_read}
@@ -50,23 +49,6 @@ module _ {Op : Type 0} where
   waits-more l more new x r e =
       let test = λ (a : Acceptance Op). not (x a.spot) || r a.spot in
       ap (λ k. is_within k x r) new.1 ∙ list_all-append test new.0 l ∙ ap (λ t. list_all test new.0 && t) e ∙ and-false _
-
-  -- a message keeps its number
-  found-later : (x : SentMessage Op) (older new : List (SentMessage Op)) → IsNumbered (new ++ x ∷ older)
-      → find (λ y. y.number == x.number) (new ++ x ∷ older) ≡ Some x
-  found-later x older [] numbered =
-      ap (λ t. cond t (Some x) (find (λ y. y.number == x.number) older)) (eq-eqb x.number x.number refl)
-  found-later x older (y ∷ new) numbered =
-      let own = own-number new numbered.1 in
-      let behind = length-append new (x ∷ older) in
-      let count = numbered.0 in
-      let apart = never (y.number == x.number) (λ e. let same = eqb-true y.number x.number e in absurd (omega arith)) in
-      ap (λ t. cond t (Some y) (find (λ z. z.number == x.number) (new ++ x ∷ older))) apart
-      ∙ found-later x older new numbered.1
-    where
-      own-number : (new : List (SentMessage Op)) → IsNumbered (new ++ x ∷ older) → x.number ≡ suc (length older)
-      own-number [] numbered = numbered.0
-      own-number (z ∷ new) numbered = own-number new numbered.1
 
   -- the gossip that one replica sends to another
   abbrev pub gossip_in : Facts Op → ℕ → ℕ → SentMessage Op
@@ -156,7 +138,7 @@ module _ {Value Op : Type 0} (m : Meaning Value Op) (kind_of : Op → Kind) (law
       elsewhere apart =
           let next = (step-point m kind_of lawful config w v p step fits legal).1 in
           let stays = λ (c : LabelledCall Op) (e : is_within w.accepted c.label (w.received j) ≡ false).
-                  waits-more w.accepted (after w step).accepted next.later.accepted c.label _ (ap (is_within w.accepted c.label) (next.others j apart).0 ∙ e) in
+          waits-more w.accepted (after w step).accepted next.later.accepted c.label _ (ap (is_within w.accepted c.label) (next.others j apart).0 ∙ e) in
           subst (λ cs. Each (λ c. is_within (after w step).accepted c.label ((after w step).received j) ≡ false) cs)
           (sym (next.others j apart).1) (each-map _ _ (w.held j) stays (waits j))
 
@@ -202,23 +184,23 @@ module _ {Value Op : Type 0} (m : Meaning Value Op) (kind_of : Op → Kind) (law
         let a = later-point m kind_of lawful config first w v p fits0.0 legal0.0 in
         let b = step-point m kind_of lawful config w1 a.0 a.1 sending fits0.1.0 legal0.1.0 in
         let c = later-point m kind_of lawful config between (after w1 sending) (stepped m a.0 sending.event).run b.0
-                fits0.1.1 legal0.1.1 in
+        fits0.1.1 legal0.1.1 in
         let w3 = facts_after (after w1 sending) between in
         let same : facts_after w start ≡ w3 = facts-parts first (sending ∷ between) w in
         let legal3 = subst (λ (u : Facts Op). LegalFrom m config u (delivering ∷ last)) same legal1.1 in
         let d = step-point m kind_of lawful config w3 c.0 c.1 delivering fits1.1.0 legal3.0 in
         let e = later-point m kind_of lawful config last (after w3 delivering) (stepped m c.0 delivering.event).run d.0
-                fits1.1.1 legal3.1 in
+        fits1.1.1 legal3.1 in
         let sends = gossip-sent m config w1 sending legal0.1.0 from to event in
         let x = gossip_in w1 from to in
         let messages = extends-more (x ∷ w1.messages) (after w1 sending).messages w3.messages sends c.2.messages in
         let named = gossip-number m config w1 sending legal0.1.0 from to number event sent in
         let found = ap (λ n. find (λ (y : SentMessage Op). y.number == n) w3.messages) named
-                ∙ ap (find (λ (y : SentMessage Op). y.number == next_number w1)) messages.1
-                ∙ found-later x w1.messages messages.0 (subst IsNumbered messages.1 c.1.keeps.numbered) in
+        ∙ ap (find (λ (y : SentMessage Op). y.number == next_number w1)) messages.1
+        ∙ found-among x _ (subst IsNumbered messages.1 c.1.keeps.numbered) (among-right x messages.0 (x ∷ w1.messages) (inl refl)) in
         let taken = gossip-taken m config w3 delivering legal3.0 from to w1 number delivered found in
         let end : facts_after w (start ++ delivering ∷ last) ≡ facts_after (after w3 delivering) last =
-            facts-parts start (delivering ∷ last) w ∙ ap (λ (u : Facts Op). facts_after u (delivering ∷ last)) same in
+        facts-parts start (delivering ∷ last) w ∙ ap (λ (u : Facts Op). facts_after u (delivering ∷ last)) same in
         ap (λ (u : Facts Op). u.received to s) end
         ∙ e.2.received to s (ap (λ (r : SpotSet). r s) taken ∙ or-right _ _ (a.2.received from s here))
 

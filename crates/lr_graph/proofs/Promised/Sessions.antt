@@ -90,12 +90,12 @@ module _ {Value Op : Type 0} (m : Meaning Value Op) (config : Config) (w : Facts
   by_reply n number client from cid names Blank reply g got = absurd reply
   by_reply n number client from cid names (DoneReply other x) reply g got =
       let sent : SentMessage Op =
-          record { number = number; from = from; to = Client client; what = DoneReply other x } in
+      record { number = number; from = from; to = Client client; what = DoneReply other x } in
       let t = by_test client other x sent refl (w.front client).open_call refl g got in
       record { call = t.call; opened = t.opened; is = t.is ∙ reply.0; next_is = t.next_is ∙ ap (takes_reply w client) reply.1 }
   by_reply n number client from cid names (AnswerReply other x) reply g got =
       let sent : SentMessage Op =
-          record { number = number; from = from; to = Client client; what = AnswerReply other x } in
+      record { number = number; from = from; to = Client client; what = AnswerReply other x } in
       let t = by_test client other x sent refl (w.front client).open_call refl g got in
       record { call = t.call; opened = t.opened; is = t.is ∙ reply.0; next_is = t.next_is ∙ ap (takes_reply w client) reply.1 }
 
@@ -121,13 +121,13 @@ module _ {Value Op : Type 0} (m : Meaning Value Op) (config : Config) (w : Facts
       by_event (Show i) at comes = absurd (none_some comes)
       by_event (Deliver n) at comes =
           let lines : step.outcomes ≡ lines_by n (Some x) =
-              legal ∙ ap (outcomes_of m config w) at ∙ ap (lines_by n) comes in
+          legal ∙ ap (outcomes_of m config w) at ∙ ap (lines_by n) comes in
           let next : after w step ≡ facts_by n (Some x) =
-              (λ k. after w (record { event = at k; outcomes = lines k }))
-              ∙ ap (λ o. step_ended (receiving o) (lines_read o w (lines_by n (Some x)))) comes in
+          (λ k. after w (record { event = at k; outcomes = lines k }))
+          ∙ ap (λ o. step_ended (receiving o) (lines_read o w (lines_by n (Some x)))) comes in
           let turned = λ (to : Actor). Some (record x { to = to }) in
           let done = subst (λ (to : Actor). IsAmong (Got g) (lines_by n (turned to)) → IsTaken w client cid names (facts_by n (turned to)))
-                  (sym to) (by_reply n x.number client x.from cid names x.what is g) (subst (IsAmong (Got g)) lines got) in
+          (sym to) (by_reply n x.number client x.from cid names x.what is g) (subst (IsAmong (Got g)) lines got) in
           record {
             taken = record { call = done.call; opened = done.opened; is = done.is; next_is = next ∙ done.next_is };
             among = (find-some (λ y. y.number == n) w.messages x comes).0;
@@ -177,13 +177,15 @@ module _ {Value Op : Type 0} (m : Meaning Value Op) (config : Config) (client k 
         let sound = subst IsSound more.accepted.1 one.0.same.shared.sound in
         let set = subst (λ l. IsSetOf l told) (sym more.accepted.1) (set-later w.accepted more.accepted.0 told sound h.set) in
         let next = step-next m config (above client k told) w v h.keeps p.same (answered w.accepted h.set) (opens w h)
-                step legal (answered (after w step).accepted set) in
-        (one.0, record {
-          keeps = next.keeps;
-          label = λ s e. more.label client s (h.label s e);
-          calls = (let c = more.calls client in let d = h.calls in omega arith);
-          set = set;
-        })
+        step legal (answered (after w step).accepted set) in (
+          one.0,
+          record {
+            keeps = next.keeps;
+            label = λ s e. more.label client s (h.label s e);
+            calls = (let c = more.calls client in let d = h.calls in omega arith);
+            set = set;
+          },
+        )
 
     pub told-later : (steps : List (Step Op)) (w : Facts Op) (v : RunState Value Op) → IsPoint m config w v
         → IsTold client k told w → Fits m config steps → LegalFrom m config w steps
@@ -253,11 +255,13 @@ module _ {Value Op : Type 0} (m : Meaning Value Op) (kind_of : Op → Kind) (law
   taken-told step fits legal client cid names x is took =
       let one = step-point m kind_of lawful config w v p step fits legal in
       let next = took.taken.next_is in
-      let front = ap (λ (u : Facts Op). u.front client) next ∙ put-same client _ w.front in
-      (one.0, record {
-        keeps = started client names (after w step) (ap (λ (f : FrontFacts Op). f.open_call) front) one.1.keeps;
-        label = λ s here. ap (λ (f : FrontFacts Op). f.label s) front ∙ or-right _ _ here;
-        calls = omega arith;
-        set = subst (λ (l : List (Acceptance Op)). IsSetOf l names) (sym (ap (λ (u : Facts Op). u.accepted) next))
-            (reply-set took.number x took.found cid names is);
-      })
+      let front = ap (λ (u : Facts Op). u.front client) next ∙ put-same client _ w.front in (
+        one.0,
+        record {
+          keeps = started client names (after w step) (ap (λ (f : FrontFacts Op). f.open_call) front) one.1.keeps;
+          label = λ s here. ap (λ (f : FrontFacts Op). f.label s) front ∙ or-right _ _ here;
+          calls = omega arith;
+          set = subst (λ (l : List (Acceptance Op)). IsSetOf l names) (sym (ap (λ (u : Facts Op). u.accepted) next))
+              (reply-set took.number x took.found cid names is);
+        },
+      )

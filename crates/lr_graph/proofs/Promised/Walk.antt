@@ -93,9 +93,11 @@ module _ {Value Op : Type 0} (m : Meaning Value Op) (config : Config) (w : Facts
     after-ended i e =
         let mid = own_read step.event in
         let x = delivery_of w step.event in
-        let sent = answers-send m mid i x (next_number mid) (mid.held i) mid.messages in
-        (sent.0, after-parts ∙ ap (λ o. step_ended o (lines_read x mid (answers_at m mid o))) e
-        ∙ ap (λ (u : Facts Op). end_read u i) sent.1)
+        let sent = answers-send m mid i x (next_number mid) (mid.held i) mid.messages in (
+          sent.0,
+          after-parts ∙ ap (λ o. step_ended o (lines_read x mid (answers_at m mid o))) e
+              ∙ ap (λ (u : Facts Op). end_read u i) sent.1,
+        )
 
 -- ---- an update that was taken before
 
@@ -173,7 +175,7 @@ module _ {Value Op : Type 0} (m : Meaning Value Op) (config : Config) (R : Rule)
       accepted-next time true true =
           let spot : Spot = record { place = i; number = suc (made w.accepted i) } in
           let a : Acceptance Op =
-              record { spot = spot; cid = call.cid; op = call.op; below = call.label ∪ only spot } in
+          record { spot = spot; cid = call.cid; op = call.op; below = call.label ∪ only spot } in
           next-more R (Some i) w (accepts w i spot call) _ (next-accepted R i w h spot call fine) (λ k.
           next-sent R (Some i) (accepts w i spot call) k (Replica i) (Client call.cid.client) (Done call.cid spot)
           (a, inl refl, refl, sym (ap (λ t. cond t a.below (below_of w.accepted spot)) (same_spot-self spot))))
@@ -288,7 +290,7 @@ module _ {Value Op : Type 0} (m : Meaning Value Op) (config : Config) (R : Rule)
 
     -- ---- any event's own part
 
-    own-next : (v : RunState Value Op) → IsSame m config w v → IsAnswered w.accepted → IsOpened w → (event : Event Op)
+    pub own-next : (v : RunState Value Op) → IsSame m config w v → IsAnswered w.accepted → IsOpened w → (event : Event Op)
         → Next (stepping w event) w (own_read m config w event)
     own-next v same answered opens (Call client replica reading op) =
         call-next opens client replica reading _ op (w.front client).open_call ((w.front client).calls == 2 ^ 62)

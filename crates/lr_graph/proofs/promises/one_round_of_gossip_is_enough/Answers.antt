@@ -19,5 +19,5 @@ returns-clause-value g c config before round fits legal whole quiet i j here the
     let w = facts_of (before ++ round) in
     let all = all-received g.S.Service.meaning _ g.met.S.Service.lawful config before round fits legal whole quiet in
     let alike = each-from _ w.accepted (λ a member.
-            each-at _ a w.accepted (all i here) member ∙ sym (each-at _ a w.accepted (all j there) member)) in
+    each-at _ a w.accepted (all i here) member ∙ sym (each-at _ a w.accepted (all j there) member)) in
     ap (value g.S.Service.meaning w.accepted) (ready-alike w i j alike)

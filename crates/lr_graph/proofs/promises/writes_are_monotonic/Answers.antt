@@ -12,6 +12,6 @@ pub returns-clause-call : goal.returns-clause-call
 returns-clause-call g c config before between later done call client first second names a fits legal took calls member of =
     let m = g.S.Service.meaning in
     let told = told-update m _ g.met.S.Service.lawful config before between later done call fits legal client
-            first second names (DoneReply first names) (refl, refl) took calls a member of in
+    first second names (DoneReply first names) (refl, refl) took calls a member of in
     done-there m _ g.met.S.Service.lawful config before between later done call fits legal client
     first second names (DoneReply first names) (refl, refl) took a.below refl told
