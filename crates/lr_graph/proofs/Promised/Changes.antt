@@ -1,5 +1,6 @@
 -- How facts change, one thing at a time, and what goes on to hold of all that has a call's name and a set.
-use Rattle.std.proofs.Common.{◌≡◌, ℕ, suc, ◌≤◌, Bool, true, false, cond, ◌==◌, find, inl, inr, List, [], ◌∷◌, ◌++◌, length}
+use Rattle.std.proofs.Common.{◌≡◌, ℕ, suc, ◌≤◌, Bool, true, false, cond, ◌==◌, find, inl, inr, List, [], ◌∷◌, ◌++◌}
+use Rattle.std.proofs.Common.{length}
 use Rattle.std.proofs.Common.{Option, Some, None, refl, sym, ap, ◌∙◌, subst, arith, eq-eqb, eqb-true}
 use Rattle.std.proofs.lemmas.List.{append_assoc}
 use Rattle.lr_base.specs.Orders.{IsAmong}
@@ -73,15 +74,21 @@ module _ {Op : Type 0} where
   numbered-most : (x : SentMessage Op) (messages : List (SentMessage Op)) → IsNumbered messages → IsAmong x messages
       → x.number ≤ length messages
   numbered-most x [] numbered among = absurd among
-  numbered-most x (y ∷ older) numbered (inl e) = let same = ap (λ (z : SentMessage Op). z.number) e in let n = numbered.0 in omega arith
-  numbered-most x (y ∷ older) numbered (inr among) = let most = numbered-most x older numbered.1 among in omega arith
+  numbered-most x (y ∷ older) numbered (inl e) =
+      let same = ap (λ (z : SentMessage Op). z.number) e in
+      let n = numbered.0 in
+      omega arith
+  numbered-most x (y ∷ older) numbered (inr among) =
+      let most = numbered-most x older numbered.1 among in
+      omega arith
 
   -- a message is found by its number
   pub found-among : (x : SentMessage Op) (messages : List (SentMessage Op)) → IsNumbered messages → IsAmong x messages
       → find (λ y. y.number == x.number) messages ≡ Some x
   found-among x [] numbered among = absurd among
   found-among x (y ∷ older) numbered (inl e) =
-      ap (λ t. cond t (Some y) (find (λ z. z.number == x.number) older)) (eq-eqb y.number x.number (ap (λ (z : SentMessage Op). z.number) (sym e)))
+      ap (λ t. cond t (Some y) (find (λ z. z.number == x.number) older))
+      (eq-eqb y.number x.number (ap (λ (z : SentMessage Op). z.number) (sym e)))
       ∙ ap Some (sym e)
   found-among x (y ∷ older) numbered (inr among) =
       let most = numbered-most x older numbered.1 among in
@@ -133,7 +140,8 @@ module _ {Op : Type 0} where
     opened-more O client (Some call) h = (up call.cid call.label h.0, h.1)
 
     pub holds-more : (O R : ℕ → Cid → Type 0) (w : Facts Op)
-        → ((client : ℕ) → IsOpenFine P O client (w.front client).open_call → IsOpenFine Q R client (w.front client).open_call)
+        → ((client : ℕ) → IsOpenFine P O client (w.front client).open_call
+        → IsOpenFine Q R client (w.front client).open_call)
         → Holds P O w → Holds Q R w
     holds-more O R w open_up h = record {
       accepted = each-map _ _ w.accepted (λ a f. up a.cid a.below f) h.accepted;
@@ -224,7 +232,8 @@ module _ {Op : Type 0} (R : Rule) where
             messages = kept.messages;
             held = kept.held;
             opened = put-each (λ j f. IsOpenFine (R.of (calls_in next)) R.of_open j f.open_call) client new w.front
-                (opened (calls_in next) more (ap (λ (f : FrontFacts Op). f.calls) (put-same client new w.front))) kept.opened;
+                (opened (calls_in next) more
+                (ap (λ (f : FrontFacts Op). f.calls) (put-same client new w.front))) kept.opened;
             numbered = kept.numbered;
           };
           others = λ j apart. (refl, refl);

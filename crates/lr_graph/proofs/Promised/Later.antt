@@ -15,7 +15,8 @@ use Rattle.lr_base.specs.declared.names.Cid.{Cid}
 use Rattle.lr_base.specs.declared.names.Config.{Config}
 use Rattle.lr_graph.specs.After.{after}
 use Rattle.lr_graph.specs.Central.{facts_after}
-use Rattle.lr_graph.specs.Graph.{Acceptance, Carried, DoneReply, Facts, LabelledCall, AnswerReply, first_facts, has_call}
+use Rattle.lr_graph.specs.Graph.{Acceptance, Carried, DoneReply, Facts, LabelledCall, AnswerReply, first_facts}
+use Rattle.lr_graph.specs.Graph.{has_call}
 use Rattle.lr_graph.specs.Legal.{IsLegal, call_lines, next_number, outcomes_of}
 use Rattle.lr_graph.specs.Promises.{◌⊆◌, CallsUpdate, Takes, facts_of}
 use Rattle.lr_graph.specs.Runs.{RunState, stepped}
@@ -48,7 +49,8 @@ module _ {Value Op : Type 0} (m : Meaning Value Op) where
       query n a b c e = cc
 
       by_kind : (t : Bool) → Send number from to (Update cid time)
-          ≡ Send (next_number w) (Client client) (Replica replica) (cond t (Query next) (Update next clock)) → cid ≡ next
+          ≡ Send (next_number w) (Client client) (Replica replica) (cond t (Query next) (Update next clock))
+          → cid ≡ next
       by_kind true e = absurd (query _ _ _ _ e)
       by_kind false e = cc
 
@@ -64,7 +66,8 @@ module _ {Value Op : Type 0} (m : Meaning Value Op) where
 
 -- ---- two steps of a history
 
-module _ {Value Op : Type 0} (m : Meaning Value Op) (kind_of : Op → Kind) (lawful : Lawful m kind_of) (config : Config) where
+module _ {Value Op : Type 0} (m : Meaning Value Op) (kind_of : Op → Kind) (lawful : Lawful m kind_of)
+    (config : Config) where
   -- in a legal history, what a step does that takes a reply
   takes-taken : (before later : List (Step Op)) (step : Step Op) → IsLegal m config (before ++ step ∷ later)
       → (client : ℕ) (cid : Cid) (names : SpotSet) (reply : Carried Op) → IsReply cid names reply
@@ -146,7 +149,8 @@ module _ {Value Op : Type 0} (m : Meaning Value Op) (kind_of : Op → Kind) (law
         knows.told first_fits.1 parts.1 in
         let named = of ∙ call-named m w client calls.replica _ calls.op _ _ calls.number calls.time _ _ second
         (subst (IsAmong _) (parts.1.0 ∙ ap (outcomes_of m config w) calls.event) calls.sent) in
-        let among = subst (λ (v : Facts Op). IsAmong a v.accepted) (facts-parts start (other ∷ later) first_facts) member in
+        let among = subst (λ (v : Facts Op). IsAmong a v.accepted)
+        (facts-parts start (other ∷ later) first_facts) member in
         let past = ap (λ (cid : Cid). cid.seq) named in
         let most = knows.told.calls in
         each-at _ a _ last.2.keeps.accepted among (ap (λ (cid : Cid). cid.client) named) (omega arith)

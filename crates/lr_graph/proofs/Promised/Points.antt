@@ -84,7 +84,8 @@ pub record IsPoint {Value Op : Type 0} (m : Meaning Value Op) (config : Config) 
 abbrev pub Fits : {Value Op : Type 0} → Meaning Value Op → Config → List (Step Op) → Type 0
 Fits m config steps = Each (λ step. IsEventOf m config step.event) steps
 
-module _ {Value Op : Type 0} (m : Meaning Value Op) (kind_of : Op → Kind) (lawful : Lawful m kind_of) (config : Config) where
+module _ {Value Op : Type 0} (m : Meaning Value Op) (kind_of : Op → Kind) (lawful : Lawful m kind_of)
+    (config : Config) where
   abbrev Point : Facts Op → RunState Value Op → Type 0
   Point w v = IsPoint m config w v
 

@@ -48,7 +48,8 @@ module _ {Op : Type 0} where
       → is_within more x r ≡ false
   waits-more l more new x r e =
       let test = λ (a : Acceptance Op). not (x a.spot) || r a.spot in
-      ap (λ k. is_within k x r) new.1 ∙ list_all-append test new.0 l ∙ ap (λ t. list_all test new.0 && t) e ∙ and-false _
+      ap (λ k. is_within k x r) new.1 ∙ list_all-append test new.0 l ∙ ap (λ t. list_all test new.0 && t) e
+      ∙ and-false _
 
   -- the gossip that one replica sends to another
   abbrev pub gossip_in : Facts Op → ℕ → ℕ → SentMessage Op
@@ -93,7 +94,8 @@ module _ {Value Op : Type 0} (m : Meaning Value Op) (config : Config) where
         subst (λ (u : Facts Op). Waits u i) (sym last.1)
         (subst (λ cs. Each (λ call. is_within mid.accepted call.label (mid.received i) ≡ false) cs)
         (sym (put-same i (filter stays (mid.held i)) mid.held))
-        (each-map _ _ (filter stays (mid.held i)) (λ c k. not-false _ k.1) (filter-each (λ c. Unit {0}) stays (mid.held i) all)))
+        (each-map _ _ (filter stays (mid.held i)) (λ c k. not-false _ k.1)
+        (filter-each (λ c. Unit {0}) stays (mid.held i) all)))
 
     module _ (from to : ℕ) where
       -- the gossip that a replica sends has the next number
@@ -101,7 +103,8 @@ module _ {Value Op : Type 0} (m : Meaning Value Op) (config : Config) where
           → IsAmong (Send number (Replica from) (Replica to) Gossip) step.outcomes → number ≡ next_number w
       gossip-number number event sent = by_line (subst (IsAmong _) (legal ∙ ap (outcomes_of m config w) event) sent)
         where
-          by_line : IsAmong (Send number (Replica from) (Replica to) Gossip) (outcomes_of m config w (GossipEvent from to))
+          by_line : IsAmong (Send number (Replica from) (Replica to) Gossip)
+              (outcomes_of m config w (GossipEvent from to))
               → number ≡ next_number w
           by_line (inl e) = cc
           by_line (inr among) =
@@ -109,7 +112,8 @@ module _ {Value Op : Type 0} (m : Meaning Value Op) (config : Config) where
               absurd (no-gossip mid (next_number mid) from number (Replica from) (Replica to) (mid.held from) among)
 
       -- what the sender received stands in a message
-      gossip-sent : step.event ≡ GossipEvent from to → Extends (after w step).messages (gossip_in w from to ∷ w.messages)
+      gossip-sent : step.event ≡ GossipEvent from to
+          → Extends (after w step).messages (gossip_in w from to ∷ w.messages)
       gossip-sent event =
           let last = after-ended m config w step legal from (ap (stepping w) event) in
           let own = λ (event : Event Op). (own_read m config w event).messages in
@@ -128,7 +132,8 @@ module _ {Value Op : Type 0} (m : Meaning Value Op) (config : Config) where
 
 -- ---- histories
 
-module _ {Value Op : Type 0} (m : Meaning Value Op) (kind_of : Op → Kind) (lawful : Lawful m kind_of) (config : Config) where
+module _ {Value Op : Type 0} (m : Meaning Value Op) (kind_of : Op → Kind) (lawful : Lawful m kind_of)
+    (config : Config) where
   waits-step : (w : Facts Op) (v : RunState Value Op) → IsPoint m config w v → (step : Step Op)
       → IsEventOf m config step.event → step.outcomes ≡ outcomes_of m config w step.event
       → ((i : ℕ) → Waits w i) → (i : ℕ) → Waits (after w step) i
@@ -138,7 +143,8 @@ module _ {Value Op : Type 0} (m : Meaning Value Op) (kind_of : Op → Kind) (law
       elsewhere apart =
           let next = (step-point m kind_of lawful config w v p step fits legal).1 in
           let stays = λ (c : LabelledCall Op) (e : is_within w.accepted c.label (w.received j) ≡ false).
-          waits-more w.accepted (after w step).accepted next.later.accepted c.label _ (ap (is_within w.accepted c.label) (next.others j apart).0 ∙ e) in
+          waits-more w.accepted (after w step).accepted next.later.accepted c.label _
+          (ap (is_within w.accepted c.label) (next.others j apart).0 ∙ e) in
           subst (λ cs. Each (λ c. is_within (after w step).accepted c.label ((after w step).received j) ≡ false) cs)
           (sym (next.others j apart).1) (each-map _ _ (w.held j) stays (waits j))
 
@@ -157,7 +163,8 @@ module _ {Value Op : Type 0} (m : Meaning Value Op) (kind_of : Op → Kind) (law
           by_place (inr apart) = elsewhere (λ e. apart (some_is j i (sym e ∙ at)))
 
   waits-later : (steps : List (Step Op)) (w : Facts Op) (v : RunState Value Op) → IsPoint m config w v
-      → Fits m config steps → LegalFrom m config w steps → ((i : ℕ) → Waits w i) → (i : ℕ) → Waits (facts_after w steps) i
+      → Fits m config steps → LegalFrom m config w steps → ((i : ℕ) → Waits w i) → (i : ℕ)
+      → Waits (facts_after w steps) i
   waits-later [] w v p fits legal waits = waits
   waits-later (step ∷ steps) w v p fits legal waits =
       waits-later steps (after w step) (stepped m v step.event).run
@@ -171,7 +178,8 @@ module _ {Value Op : Type 0} (m : Meaning Value Op) (kind_of : Op → Kind) (law
     spreads : (first between last : List (Step Op)) (sending delivering : Step Op)
         → Fits m config (first ++ sending ∷ between ++ delivering ∷ last)
         → LegalFrom m config w (first ++ sending ∷ between ++ delivering ∷ last) → (from to number : ℕ)
-        → sending.event ≡ GossipEvent from to → IsAmong (Send number (Replica from) (Replica to) Gossip) sending.outcomes
+        → sending.event ≡ GossipEvent from to
+        → IsAmong (Send number (Replica from) (Replica to) Gossip) sending.outcomes
         → delivering.event ≡ Deliver number
         → w.received from ⊆ (facts_after w (first ++ sending ∷ between ++ delivering ∷ last)).received to
     spreads first between last sending delivering fits legal from to number event sent delivered s here =
@@ -197,7 +205,8 @@ module _ {Value Op : Type 0} (m : Meaning Value Op) (kind_of : Op → Kind) (law
         let named = gossip-number m config w1 sending legal0.1.0 from to number event sent in
         let found = ap (λ n. find (λ (y : SentMessage Op). y.number == n) w3.messages) named
         ∙ ap (find (λ (y : SentMessage Op). y.number == next_number w1)) messages.1
-        ∙ found-among x _ (subst IsNumbered messages.1 c.1.keeps.numbered) (among-right x messages.0 (x ∷ w1.messages) (inl refl)) in
+        ∙ found-among x _ (subst IsNumbered messages.1 c.1.keeps.numbered)
+        (among-right x messages.0 (x ∷ w1.messages) (inl refl)) in
         let taken = gossip-taken m config w3 delivering legal3.0 from to w1 number delivered found in
         let end : facts_after w (start ++ delivering ∷ last) ≡ facts_after (after w3 delivering) last =
         facts-parts start (delivering ∷ last) w ∙ ap (λ (u : Facts Op). facts_after u (delivering ∷ last)) same in
@@ -215,7 +224,8 @@ module _ {Value Op : Type 0} (m : Meaning Value Op) (kind_of : Op → Kind) (law
 
   module _ (before round : List (Step Op)) (fits : Fits m config (before ++ round))
       (legal : IsLegal m config (before ++ round)) (whole : IsRound config round)
-      (quiet : (facts_of (before ++ round)).accepted ≡ (facts_of before).accepted) (i : ℕ) (here : i < config.replicas) where
+      (quiet : (facts_of (before ++ round)).accepted ≡ (facts_of before).accepted) (i : ℕ)
+      (here : i < config.replicas) where
     abbrev last : Facts Op
     last = facts_of (before ++ round)
 

@@ -45,7 +45,8 @@ IsReply cid names (AnswerReply other x) = (other ≡ cid) × (x ≡ names)
 IsReply cid names _ = ⊥
 
 -- a call was open, and the front end takes the reply to it
-pub record IsTaken {Op : Type 0} (w : Facts Op) (client : ℕ) (cid : Cid) (names : SpotSet) (next : Facts Op) : Type 0 where
+pub record IsTaken {Op : Type 0} (w : Facts Op) (client : ℕ) (cid : Cid) (names : SpotSet)
+    (next : Facts Op) : Type 0 where
   pub call : LabelledCall Op
   pub opened : (w.front client).open_call ≡ Some call
   pub is : call.cid ≡ cid
@@ -92,12 +93,22 @@ module _ {Value Op : Type 0} (m : Meaning Value Op) (config : Config) (w : Facts
       let sent : SentMessage Op =
       record { number = number; from = from; to = Client client; what = DoneReply other x } in
       let t = by_test client other x sent refl (w.front client).open_call refl g got in
-      record { call = t.call; opened = t.opened; is = t.is ∙ reply.0; next_is = t.next_is ∙ ap (takes_reply w client) reply.1 }
+      record {
+        call = t.call;
+        opened = t.opened;
+        is = t.is ∙ reply.0;
+        next_is = t.next_is ∙ ap (takes_reply w client) reply.1;
+      }
   by_reply n number client from cid names (AnswerReply other x) reply g got =
       let sent : SentMessage Op =
       record { number = number; from = from; to = Client client; what = AnswerReply other x } in
       let t = by_test client other x sent refl (w.front client).open_call refl g got in
-      record { call = t.call; opened = t.opened; is = t.is ∙ reply.0; next_is = t.next_is ∙ ap (takes_reply w client) reply.1 }
+      record {
+        call = t.call;
+        opened = t.opened;
+        is = t.is ∙ reply.0;
+        next_is = t.next_is ∙ ap (takes_reply w client) reply.1;
+      }
 
   -- a step takes a reply that was sent
   pub record HasTaken (step : Step Op) (client : ℕ) (cid : Cid) (names : SpotSet) (x : SentMessage Op) : Type 0 where
@@ -126,7 +137,9 @@ module _ {Value Op : Type 0} (m : Meaning Value Op) (config : Config) (w : Facts
           (λ k. after w (record { event = at k; outcomes = lines k }))
           ∙ ap (λ o. step_ended (receiving o) (lines_read o w (lines_by n (Some x)))) comes in
           let turned = λ (to : Actor). Some (record x { to = to }) in
-          let done = subst (λ (to : Actor). IsAmong (Got g) (lines_by n (turned to)) → IsTaken w client cid names (facts_by n (turned to)))
+          let done = subst
+          (λ (to : Actor). IsAmong (Got g) (lines_by n (turned to))
+          → IsTaken w client cid names (facts_by n (turned to)))
           (sym to) (by_reply n x.number client x.from cid names x.what is g) (subst (IsAmong (Got g)) lines got) in
           record {
             taken = record { call = done.call; opened = done.opened; is = done.is; next_is = next ∙ done.next_is };
@@ -158,7 +171,8 @@ module _ {Value Op : Type 0} (m : Meaning Value Op) (config : Config) (client k 
   answered : (l : List (Acceptance Op)) → IsSetOf l told → IsAnswered m config (above client k told) l
   answered l set n cid x r f within own past s here =
       let a = set.exist s here in
-      let inside = each-from _ l (λ b in_b in_told. each-at _ b l (within-holds l x r within) in_b (f own past b.spot in_told)) in
+      let inside = each-from _ l
+      (λ b in_b in_told. each-at _ b l (within-holds l x r within) in_b (f own past b.spot in_told)) in
       ap (ready l r) (sym a.2) ∙ each-at _ a.0 l (ready-greatest l r told inside set.closed) a.1 (ap told a.2 ∙ here)
 
   opens : (w : Facts Op) → IsTold client k told w → IsOpened m config (above client k told) w
@@ -168,14 +182,16 @@ module _ {Value Op : Type 0} (m : Meaning Value Op) (config : Config) (client k 
   )
 
   module _ (kind_of : Op → Kind) (lawful : Lawful m kind_of) where
-    told-step : (w : Facts Op) (v : RunState Value Op) → IsPoint m config w v → IsTold client k told w → (step : Step Op)
+    told-step : (w : Facts Op) (v : RunState Value Op) → IsPoint m config w v → IsTold client k told w
+        → (step : Step Op)
         → IsEventOf m config step.event → step.outcomes ≡ outcomes_of m config w step.event
         → IsPoint m config (after w step) (stepped m v step.event).run × IsTold client k told (after w step)
     told-step w v p h step fits legal =
         let one = step-point m kind_of lawful config w v p step fits legal in
         let more = one.1.later in
         let sound = subst IsSound more.accepted.1 one.0.same.shared.sound in
-        let set = subst (λ l. IsSetOf l told) (sym more.accepted.1) (set-later w.accepted more.accepted.0 told sound h.set) in
+        let set = subst (λ l. IsSetOf l told) (sym more.accepted.1)
+        (set-later w.accepted more.accepted.0 told sound h.set) in
         let next = step-next m config (above client k told) w v h.keeps p.same (answered w.accepted h.set) (opens w h)
         step legal (answered (after w step).accepted set) in (
           one.0,
@@ -189,7 +205,8 @@ module _ {Value Op : Type 0} (m : Meaning Value Op) (config : Config) (client k 
 
     pub told-later : (steps : List (Step Op)) (w : Facts Op) (v : RunState Value Op) → IsPoint m config w v
         → IsTold client k told w → Fits m config steps → LegalFrom m config w steps
-        → (u : RunState Value Op) × IsPoint m config (facts_after w steps) u × IsTold client k told (facts_after w steps)
+        → (u : RunState Value Op) × IsPoint m config (facts_after w steps) u
+        × IsTold client k told (facts_after w steps)
     told-later [] w v p h fits legal = (v, p, h)
     told-later (step ∷ steps) w v p h fits legal =
         let one = told-step w v p h step fits.0 legal.0 in
@@ -227,7 +244,8 @@ module _ {Value Op : Type 0} (m : Meaning Value Op) (kind_of : Op → Kind) (law
   Same x y = SameMessage m config w.accepted w.received p.same.issued (calls_in w) x y
 
   -- a reply stands for a set of acceptances
-  reply-set : (n : ℕ) (x : SentMessage Op) → find (λ y. y.number == n) w.messages ≡ Some x → (cid : Cid) (names : SpotSet)
+  reply-set : (n : ℕ) (x : SentMessage Op) → find (λ y. y.number == n) w.messages ≡ Some x
+      → (cid : Cid) (names : SpotSet)
       → IsReply cid names x.what → IsSetOf w.accepted names
   reply-set n x found cid names is =
       by_posted (message_at v.posted n)

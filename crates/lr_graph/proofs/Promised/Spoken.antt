@@ -20,10 +20,12 @@ use Rattle.lr_base.specs.declared.names.Spot.{Spot}
 use Rattle.lr_graph.specs.After.{after, delivery_of, end_read, lines_read, next_call, step_ended, stepping}
 use Rattle.lr_graph.specs.Central.{facts_after}
 use Rattle.lr_graph.specs.Closed.{Each}
-use Rattle.lr_graph.specs.Graph.{Carried, Facts, LabelledCall, SentMessage, UpdateCopy, QueryCopy, DoneReply, AnswerReply}
+use Rattle.lr_graph.specs.Graph.{Carried, Facts, LabelledCall, SentMessage, UpdateCopy, QueryCopy, DoneReply}
+use Rattle.lr_graph.specs.Graph.{AnswerReply}
 use Rattle.lr_graph.specs.Graph.{GossipOf, Blank, first_facts, is_within, ready, value}
 use Rattle.lr_graph.specs.Legal.{IsLegal, accept_lines, answer_line, answers, answers_at, call_lines, delivery_lines}
-use Rattle.lr_graph.specs.Legal.{message_lines, next_number, outcomes_of, own_lines, query_lines, reply_line, update_lines}
+use Rattle.lr_graph.specs.Legal.{message_lines, next_number, outcomes_of, own_lines, query_lines, reply_line}
+use Rattle.lr_graph.specs.Legal.{update_lines}
 use Rattle.lr_graph.specs.Promises.{IsReadAfter, TakesAnswer, facts_of}
 use Rattle.lr_graph.specs.Runs.{stepped}
 use Rattle.lr_graph.specs.Sets.{SpotSet}
@@ -134,7 +136,8 @@ module _ {Value Op : Type 0} (m : Meaning Value Op) (n i client : ℕ) (cid : Ci
   no-answer : (lines : List Outcome) → Each IsOther lines → IsAmong line lines → ⊥
   no-answer lines others among = each-at IsOther line lines others among
 
-  update-other : (config : Config) (w : Facts Op) (j : ℕ) (c : Cid) (o : Option Spot) → Each IsOther (update_lines config w j c o)
+  update-other : (config : Config) (w : Facts Op) (j : ℕ) (c : Cid) (o : Option Spot)
+      → Each IsOther (update_lines config w j c o)
   update-other config w j c (Some spot) = (tt, (tt, tt))
   update-other config w j c None = by_test _ _
     where
@@ -151,12 +154,16 @@ module _ {Value Op : Type 0} (m : Meaning Value Op) (n i client : ℕ) (cid : Ci
       by_test true among = no-answer (Got c ∷ []) (tt, tt) among
       by_test false among = no-answer (Stale c ∷ []) (tt, tt) among
 
-  call-other : (w : Facts Op) (f replica clock : ℕ) (op : Op) (o : Option (LabelledCall Op)) (worn : Bool) → Each IsOther (call_lines m w f replica clock op o worn)
+  call-other : (w : Facts Op) (f replica clock : ℕ) (op : Op) (o : Option (LabelledCall Op)) (worn : Bool)
+      → Each IsOther (call_lines m w f replica clock op o worn)
   call-other w f replica clock op (Some call) worn = (tt, tt)
   call-other w f replica clock op None true = (tt, tt)
   call-other w f replica clock op None false = by_kind (is_query (m.kind op))
     where
-      by_kind : (t : Bool) → Each IsOther (Send (next_number w) (Client f) (Replica replica) (cond t (Query (next_call f (w.front f) op).cid) (Update (next_call f (w.front f) op).cid clock)) ∷ [])
+      by_kind : (t : Bool)
+          → Each IsOther
+          (Send (next_number w) (Client f) (Replica replica)
+          (cond t (Query (next_call f (w.front f) op).cid) (Update (next_call f (w.front f) op).cid clock)) ∷ [])
       by_kind true = (tt, tt)
       by_kind false = (tt, tt)
 
@@ -179,7 +186,8 @@ module _ {Value Op : Type 0} (m : Meaning Value Op) (n i client : ℕ) (cid : Ci
     message-spoken : (to : Actor) (what : Carried Op) → WasSent w.messages what
         → IsAmong line (message_lines m config w to what) → IsSpoken (came to what (message_lines m config w to what))
     message-spoken (Replica j) (UpdateCopy call time) asked among =
-        absurd (no-answer (message_lines m config w (Replica j) (UpdateCopy call time)) (update-other config w j call.cid _) among)
+        absurd (no-answer (message_lines m config w (Replica j) (UpdateCopy call time))
+        (update-other config w j call.cid _) among)
     message-spoken (Replica j) (QueryCopy call) asked among = query-spoken j call _ _ asked among
     message-spoken (Replica j) (DoneReply c names) asked among = absurd among
     message-spoken (Replica j) (AnswerReply c names) asked among = absurd among
@@ -197,7 +205,8 @@ module _ {Value Op : Type 0} (m : Meaning Value Op) (n i client : ℕ) (cid : Ci
 
   module _ (config : Config) (w : Facts Op) where
     delivery-spoken : (number : ℕ) (o : Option (SentMessage Op)) → find (λ x. x.number == number) w.messages ≡ o
-        → IsAmong line (delivery_lines m config w number o) → IsSpoken (lines_read o w (delivery_lines m config w number o))
+        → IsAmong line (delivery_lines m config w number o)
+        → IsSpoken (lines_read o w (delivery_lines m config w number o))
     delivery-spoken number None e among = absurd (no-answer (delivery_lines m config w number None) (tt, tt) among)
     delivery-spoken number (Some x) e among =
         message-spoken config w x.number x.from x.to x.what
@@ -207,7 +216,8 @@ module _ {Value Op : Type 0} (m : Meaning Value Op) (n i client : ℕ) (cid : Ci
     own-spoken (Call f replica reading op) among =
         absurd (no-answer (own_lines m config w (Call f replica reading op))
         (call-other w f replica _ op (w.front f).open_call ((w.front f).calls == 2 ^ 62)) among)
-    own-spoken (GossipEvent from to) among = absurd (no-answer (own_lines m config w (GossipEvent from to)) (tt, tt) among)
+    own-spoken (GossipEvent from to) among = absurd
+        (no-answer (own_lines m config w (GossipEvent from to)) (tt, tt) among)
     own-spoken (Show j) among = absurd (no-answer (own_lines m config w (Show j)) (tt, tt) among)
     own-spoken (Deliver number) among = delivery-spoken number _ refl among
 
@@ -241,11 +251,13 @@ module _ {Value Op : Type 0} (m : Meaning Value Op) (n i client : ℕ) (cid : Ci
         by_actor None mid x k (inl s) = s
         by_actor None mid x k (inr none) = absurd none
         by_actor (Some j) mid x k (inr among) =
-            ended j (lines_read x mid (answers_at m mid (Some j))) (answers-spoken mid j x (next_number mid) (mid.held j)
+            ended j (lines_read x mid (answers_at m mid (Some j)))
+            (answers-spoken mid j x (next_number mid) (mid.held j)
             mid.messages (each-map _ _ (mid.held j) (λ c f. f.1) (k.held j)) among)
         by_actor (Some j) mid x k (inl s) =
             let rest = answers-send m mid j x (next_number mid) (mid.held j) mid.messages in
-            ended j (lines_read x mid (answers_at m mid (Some j))) (subst IsSpoken (sym rest.1) (spoken-more mid rest.0 s))
+            ended j (lines_read x mid (answers_at m mid (Some j)))
+            (subst IsSpoken (sym rest.1) (spoken-more mid rest.0 s))
 
 -- ---- where it is taken
 
@@ -279,11 +291,13 @@ module _ {Value Op : Type 0} (m : Meaning Value Op) (kind_of : Op → Kind) (law
       let last = later-point m kind_of lawful config between (after w sending) (stepped m at.0 sending.event).run next.0
       fits0.1.1 legal0.1.1 in
       let now = facts_after (after w sending) between in
-      let among = subst (IsAmong spoken.answer) (sym last.2.messages.1) (among-right spoken.answer last.2.messages.0 (after w sending).messages spoken.among) in
+      let among = subst (IsAmong spoken.answer) (sym last.2.messages.1)
+      (among-right spoken.answer last.2.messages.0 (after w sending).messages spoken.among) in
       let found = found-among spoken.answer now.messages last.1.keeps.numbered among in
       let same : facts_of start ≡ now = facts-parts before (sending ∷ between) first_facts in
       let one : Some takes.message ≡ Some spoken.answer =
-      sym takes.comes ∙ ap (delivery_of (facts_of start)) delivers ∙ ap (λ (u : Facts Op). find (λ x. x.number == n) u.messages) same
+      sym takes.comes ∙ ap (delivery_of (facts_of start)) delivers
+      ∙ ap (λ (u : Facts Op). find (λ x. x.number == n) u.messages) same
       ∙ ap (λ k. find (λ (x : SentMessage Op). x.number == k) now.messages) (sym spoken.number) ∙ found in
       let message : takes.message ≡ spoken.answer = cc in
       let ready_now = ready (after w sending).accepted ((after w sending).received i) in
@@ -293,7 +307,8 @@ module _ {Value Op : Type 0} (m : Meaning Value Op) (kind_of : Op → Kind) (law
       subst IsBoth (sym (facts-parts before (sending ∷ []) first_facts)) (record { spoken = spoken; set = set })
 
   -- it was read after what is ready where it was sent
-  pub read-ready : seen ≡ ready (facts_of (before ++ sending ∷ [])).accepted ((facts_of (before ++ sending ∷ [])).received i)
+  pub read-ready : seen ≡ ready (facts_of (before ++ sending ∷ [])).accepted
+      ((facts_of (before ++ sending ∷ [])).received i)
   read-ready = both.set
 
   -- and says what the service reads after this

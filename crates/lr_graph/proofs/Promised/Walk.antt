@@ -70,8 +70,11 @@ module _ {Value Op : Type 0} (m : Meaning Value Op) (w : Facts Op) (i : ℕ) (x 
             to = Client call.cid.client;
             what = AnswerReply call.cid (ready w.accepted (w.received i));
           } in
-          let rest = sent (one ∷ messages) in
-          (rest.0 ++ one ∷ [], rest.1 ∙ ap (λ l. record w { messages = l }) (sym (append_assoc rest.0 (one ∷ []) messages)))
+          let rest = sent (one ∷ messages) in (
+            rest.0 ++ one ∷ [],
+            rest.1
+                ∙ ap (λ l. record w { messages = l }) (sym (append_assoc rest.0 (one ∷ []) messages)),
+          )
 
 module _ {Value Op : Type 0} (m : Meaning Value Op) (config : Config) (w : Facts Op) where
   -- the facts after the lines of the event itself
@@ -89,7 +92,8 @@ module _ {Value Op : Type 0} (m : Meaning Value Op) (config : Config) (w : Facts
 
     -- behind its own part a step of a replica only sends, and then ends
     pub after-ended : (i : ℕ) → stepping w step.event ≡ Some i → (new : List (SentMessage Op))
-        × (after w step ≡ end_read (record (own_read step.event) { messages = new ++ (own_read step.event).messages }) i)
+        × (after w step ≡ end_read
+        (record (own_read step.event) { messages = new ++ (own_read step.event).messages }) i)
     after-ended i e =
         let mid = own_read step.event in
         let x = delivery_of w step.event in
@@ -204,18 +208,22 @@ module _ {Value Op : Type 0} (m : Meaning Value Op) (config : Config) (R : Rule)
         by_test : (t : Bool) → Next None w (lines_read (Some x) w (cond t (Got cid) (Stale cid) ∷ []))
         by_test false = next-same R None w h
         by_test true =
-            subst (Next None w) (sym is) (next-front R None w h client taken (λ s e. or-left _ _ e) (omega arith) (λ n up e. tt))
+            subst (Next None w) (sym is)
+            (next-front R None w h client taken (λ s e. or-left _ _ e) (omega arith) (λ n up e. tt))
 
     module _ (v : RunState Value Op) (same : IsSame m config w v) (answered : IsAnswered w.accepted) where
       message-next : (number : ℕ) (from to : Actor) (what : Carried Op) → IsThere config to
           → IsFine (R.of (calls_in w)) w.accepted what → WasSent w.messages what
           → Next (receiving (Some (record { number = number; from = from; to = to; what = what }))) w
-          (lines_read (Some (record { number = number; from = from; to = to; what = what })) w (message_lines m config w to what))
+          (lines_read (Some (record { number = number; from = from; to = to; what = what })) w
+          (message_lines m config w to what))
       message-next number from (Replica i) (UpdateCopy call time) here fine sent =
           by_spot (taken_at config w i call.cid (kept_spot (w.kept i) call.cid)) refl
         where
           by_spot : (o : Option Spot) → taken_at config w i call.cid (kept_spot (w.kept i) call.cid) ≡ o
-              → Next (Some i) w (lines_read (Some (message i number from call fine (UpdateCopy call time))) w (update_lines config w i call.cid o))
+              → Next (Some i) w
+              (lines_read (Some (message i number from call fine (UpdateCopy call time))) w
+              (update_lines config w i call.cid o))
           by_spot None e = accepted-next i number from call fine time _ _
           by_spot (Some spot) e =
               again-next i (message i number from call fine (UpdateCopy call time)) call spot same.shared.sound.apart
@@ -255,16 +263,19 @@ module _ {Value Op : Type 0} (m : Meaning Value Op) (config : Config) (R : Rule)
 
     -- ---- a client calls
 
-    clock-next : (client clock : ℕ) → Next None w (record w { front = put_at client (record (w.front client) { clock = clock }) w.front })
+    clock-next : (client clock : ℕ)
+        → Next None w (record w { front = put_at client (record (w.front client) { clock = clock }) w.front })
     clock-next client clock =
         next-front R None w h client (record (w.front client) { clock = clock }) (λ s e. e) (omega arith) (λ n up e.
-        opened-more (R.of (calls_in w)) (R.of n) (R.counts (calls_in w) n up) R.of_open client (w.front client).open_call (h.opened client))
+        opened-more (R.of (calls_in w)) (R.of n) (R.counts (calls_in w) n up) R.of_open client
+        (w.front client).open_call (h.opened client))
 
     call-next : IsOpened w → (client replica reading clock : ℕ) (op : Op) (o : Option (LabelledCall Op)) (worn : Bool)
         → Next None w (lines_read None
         (record w { front = put_at client (call_read client reading op (w.front client) o worn) w.front })
         (call_lines m w client replica clock op o worn))
-    call-next opens client replica reading clock op (Some call) worn = clock-next client (max (w.front client).clock reading)
+    call-next opens client replica reading clock op (Some call) worn = clock-next client
+        (max (w.front client).clock reading)
     call-next opens client replica reading clock op None true = clock-next client (max (w.front client).clock reading)
     call-next opens client replica reading clock op None false =
         next-more R None w next _ (next-front R None w h client new (λ s e. e) (omega arith)
@@ -280,22 +291,27 @@ module _ {Value Op : Type 0} (m : Meaning Value Op) (config : Config) (R : Rule)
         cid = record { client = client; seq = suc (calls_in w client) }
 
         sent : (t : Bool) → Keeps R next → Next None next
-            (line_read None next (Send (next_number w) (Client client) (Replica replica) (cond t (Query cid) (Update cid clock))))
+            (line_read None next
+            (Send (next_number w) (Client client) (Replica replica) (cond t (Query cid) (Update cid clock))))
         sent true k =
             next-sent R None next k (Client client) (Replica replica) (Query cid)
-            (query-fine (R.of (calls_in next)) R.of_open w.accepted client (next.front client).open_call (k.opened client))
+            (query-fine (R.of (calls_in next)) R.of_open w.accepted client (next.front client).open_call
+            (k.opened client))
         sent false k =
             next-sent R None next k (Client client) (Replica replica) (Update cid clock)
-            (update-fine (R.of (calls_in next)) R.of_open w.accepted client clock (next.front client).open_call (k.opened client))
+            (update-fine (R.of (calls_in next)) R.of_open w.accepted client clock (next.front client).open_call
+            (k.opened client))
 
     -- ---- any event's own part
 
-    pub own-next : (v : RunState Value Op) → IsSame m config w v → IsAnswered w.accepted → IsOpened w → (event : Event Op)
+    pub own-next : (v : RunState Value Op) → IsSame m config w v → IsAnswered w.accepted → IsOpened w
+        → (event : Event Op)
         → Next (stepping w event) w (own_read m config w event)
     own-next v same answered opens (Call client replica reading op) =
         call-next opens client replica reading _ op (w.front client).open_call ((w.front client).calls == 2 ^ 62)
     own-next v same answered opens (Deliver n) = delivery-next v same answered n _ refl
-    own-next v same answered opens (GossipEvent from to) = next-sent R (Some from) w h (Replica from) (Replica to) Gossip tt
+    own-next v same answered opens (GossipEvent from to) = next-sent R (Some from) w h (Replica from)
+        (Replica to) Gossip tt
     own-next v same answered opens (Show i) = next-same R None w h
 
   -- ---- the end of a step
