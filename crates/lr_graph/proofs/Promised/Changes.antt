@@ -48,14 +48,14 @@ extends-more xs ys zs one two =
     (two.0 ++ one.0, two.1 ∙ ap (λ l. two.0 ++ l) one.1 ∙ sym (append_assoc two.0 one.0 xs))
 
 module _ {Op : Type 0} where
+  later-by : {w u : Facts Op} → Extends u.accepted w.accepted → Extends u.messages w.messages
+      → ((i : ℕ) → w.received i ⊆ u.received i) → ((f : ℕ) → (w.front f).label ⊆ (u.front f).label)
+      → ((f : ℕ) → calls_in w f ≤ calls_in u f) → IsLater w u
+  later-by accepted messages received label calls =
+      record { accepted = accepted; messages = messages; received = received; label = label; calls = calls }
+
   pub later-self : (w : Facts Op) → IsLater w w
-  later-self w = record {
-    accepted = ([], refl);
-    messages = ([], refl);
-    received = λ i s e. e;
-    label = λ client s e. e;
-    calls = λ client. omega arith;
-  }
+  later-self w = later-by ([], refl) ([], refl) (λ i s e. e) (λ f s e. e) (λ f. omega arith)
 
   pub later-more : (w v u : Facts Op) → IsLater w v → IsLater v u → IsLater w u
   later-more w v u one two = record {
@@ -123,6 +123,13 @@ module _ {Op : Type 0} where
     pub opened : (client : ℕ) → IsOpenFine P O client (w.front client).open_call
     pub numbered : IsNumbered w.messages
 
+  holds-by : {P : Cid → SpotSet → Type 0} {O : ℕ → Cid → Type 0} {w : Facts Op} → Each (λ a. P a.cid a.below) w.accepted
+      → Each (λ x. IsFine P w.accepted x.what) w.messages
+      → ((i : ℕ) → Each (λ call. P call.cid call.label × WasSent w.messages (QueryCopy call)) (w.held i))
+      → ((f : ℕ) → IsOpenFine P O f (w.front f).open_call) → IsNumbered w.messages → Holds P O w
+  holds-by accepted messages held opened numbered =
+      record { accepted = accepted; messages = messages; held = held; opened = opened; numbered = numbered }
+
   -- what P gives, where nothing that was accepted is lost
   module _ (P Q : Cid → SpotSet → Type 0) (up : (cid : Cid) (x : SpotSet) → P cid x → Q cid x) where
     pub fine-more : (l more : List (Acceptance Op)) → ((a : Acceptance Op) → IsAmong a l → IsAmong a more)
@@ -176,6 +183,10 @@ module _ {Op : Type 0} (R : Rule) where
   abbrev pub Keeps : Facts Op → Type 0
   Keeps w = Holds (R.of (calls_in w)) R.of_open w
 
+  -- the rule holds of what is held, and this was sent
+  abbrev pub IsHeldFine : Facts Op → LabelledCall Op → Type 0
+  IsHeldFine w call = R.of (calls_in w) call.cid call.label × WasSent w.messages (QueryCopy call)
+
   -- facts that come next: what replicas have changes at this one alone
   pub record IsNext (at : Option ℕ) (w next : Facts Op) : Type 0 where
     pub later : IsLater w next
@@ -189,20 +200,10 @@ module _ {Op : Type 0} (R : Rule) where
     pub next-sent : (from to : Actor) (what : Sent) → IsFine (R.of (calls_in w)) w.accepted (carried w from what)
         → IsNext at w (line_read None w (Send (next_number w) from to what))
     next-sent from to what fine = record {
-      later = record {
-        accepted = ([], refl);
-        messages = (record { number = next_number w; from = from; to = to; what = carried w from what } ∷ [], refl);
-        received = λ i s e. e;
-        label = λ j s e. e;
-        calls = λ j. omega arith;
-      };
-      keeps = record {
-        accepted = h.accepted;
-        messages = (fine, h.messages);
-        held = λ i. each-map _ _ (w.held i) (λ c f. (f.0, (f.1.0, inr f.1.1, f.1.2))) (h.held i);
-        opened = h.opened;
-        numbered = (refl, h.numbered);
-      };
+      later = later-by ([], refl) (_ ∷ [], refl) (λ i s e. e) (λ j s e. e) (λ j. omega arith);
+      keeps = holds-by h.accepted (fine, h.messages)
+          (λ i. each-map _ _ (w.held i) (λ c f. (f.0, (f.1.0, inr f.1.1, f.1.2))) (h.held i)) h.opened
+          (refl, h.numbered);
       others = λ j apart. (refl, refl);
     }
 
@@ -219,23 +220,13 @@ module _ {Op : Type 0} (R : Rule) where
         let up = R.counts (calls_in w) (calls_in next) more in
         let kept = holds-more (R.of (calls_in w)) (R.of (calls_in next)) up R.of_open R.of_open w
         (λ j. opened-more (R.of (calls_in w)) (R.of (calls_in next)) up R.of_open j (w.front j).open_call) h in
+        let labels = put-each (λ j f. (w.front j).label ⊆ f.label) client new w.front label (λ j s e. e) in
+        let own = opened (calls_in next) more (ap (λ (f : FrontFacts Op). f.calls) (put-same client new w.front)) in
+        let all = put-each (λ j f. IsOpenFine (R.of (calls_in next)) R.of_open j f.open_call) client new w.front own
+        kept.opened in
         record {
-          later = record {
-            accepted = ([], refl);
-            messages = ([], refl);
-            received = λ i s e. e;
-            label = put-each (λ j f. (w.front j).label ⊆ f.label) client new w.front label (λ j s e. e);
-            calls = more;
-          };
-          keeps = record {
-            accepted = kept.accepted;
-            messages = kept.messages;
-            held = kept.held;
-            opened = put-each (λ j f. IsOpenFine (R.of (calls_in next)) R.of_open j f.open_call) client new w.front
-                (opened (calls_in next) more
-                (ap (λ (f : FrontFacts Op). f.calls) (put-same client new w.front))) kept.opened;
-            numbered = kept.numbered;
-          };
+          later = later-by ([], refl) ([], refl) (λ i s e. e) labels more;
+          keeps = holds-by kept.accepted kept.messages kept.held all kept.numbered;
           others = λ j apart. (refl, refl);
         }
 
@@ -255,62 +246,27 @@ module _ {Op : Type 0} (R : Rule) where
         record { spot = spot; cid = call.cid; op = call.op; below = causes_of call ∪ only spot } in
         let more = fine-more (R.of (calls_in w)) _ (λ c y p. p) w.accepted (a ∷ w.accepted) (λ b m. inr m) in
         record {
-          later = record {
-            accepted = (a ∷ [], refl);
-            messages = ([], refl);
-            received = more-received (only spot);
-            label = λ j s e. e;
-            calls = λ j. omega arith;
-          };
-          keeps = record {
-            accepted = (R.grows (calls_in w) call.cid call.label (only spot) fine, h.accepted);
-            messages = each-map _ _ w.messages (λ x f. more x.what f) h.messages;
-            held = h.held;
-            opened = h.opened;
-            numbered = h.numbered;
-          };
+          later = later-by (a ∷ [], refl) ([], refl) (more-received (only spot)) (λ j s e. e) (λ j. omega arith);
+          keeps = holds-by (R.grows (calls_in w) call.cid call.label (only spot) fine, h.accepted)
+              (each-map _ _ w.messages (λ x f. more x.what f) h.messages) h.held h.opened h.numbered;
           others = λ j apart. (elsewhere (w.received i ∪ only spot) w.received j apart, refl);
         }
 
     pub next-taken : (names : SpotSet) → IsNext (Some i) w (take_read w (Replica i) (GossipOf names))
     next-taken names = record {
-      later = record {
-        accepted = ([], refl);
-        messages = ([], refl);
-        received = more-received names;
-        label = λ j s e. e;
-        calls = λ j. omega arith;
-      };
-      keeps = record {
-        accepted = h.accepted;
-        messages = h.messages;
-        held = h.held;
-        opened = h.opened;
-        numbered = h.numbered;
-      };
+      later = later-by ([], refl) ([], refl) (more-received names) (λ j s e. e) (λ j. omega arith);
+      keeps = holds-by h.accepted h.messages h.held h.opened h.numbered;
       others = λ j apart. (elsewhere (w.received i ∪ names) w.received j apart, refl);
     }
 
     -- what a replica holds and keeps changes
     pub next-holding : (calls : List (LabelledCall Op)) (kept : ℕ → List Kept)
-        → Each (λ c. R.of (calls_in w) c.cid c.label × WasSent w.messages (QueryCopy c)) calls
+        → Each (IsHeldFine w) calls
         → IsNext (Some i) w (record w { held = put_at i calls w.held; kept = kept })
     next-holding calls kept fine = record {
-      later = record {
-        accepted = ([], refl);
-        messages = ([], refl);
-        received = λ j s e. e;
-        label = λ j s e. e;
-        calls = λ j. omega arith;
-      };
-      keeps = record {
-        accepted = h.accepted;
-        messages = h.messages;
-        held = put-each (λ j cs. Each (λ c. R.of (calls_in w) c.cid c.label × WasSent w.messages (QueryCopy c)) cs) i
-            calls w.held fine h.held;
-        opened = h.opened;
-        numbered = h.numbered;
-      };
+      later = later-by ([], refl) ([], refl) (λ j s e. e) (λ j s e. e) (λ j. omega arith);
+      keeps = holds-by h.accepted h.messages (put-each (λ j cs. Each (IsHeldFine w) cs) i calls w.held fine h.held)
+          h.opened h.numbered;
       others = λ j apart. (refl, elsewhere calls w.held j apart);
     }
 

@@ -17,10 +17,11 @@ use Rattle.lr_base.specs.declared.names.Actor.TheVariants.{Client, Replica}
 use Rattle.lr_base.specs.declared.names.Cid.{Cid}
 use Rattle.lr_base.specs.declared.names.Config.{Config}
 use Rattle.lr_base.specs.declared.names.Spot.{Spot}
-use Rattle.lr_graph.specs.After.{after, delivery_of, end_read, lines_read, next_call, step_ended, stepping}
+use Rattle.lr_graph.specs.After.{after, delivery_of, lines_read, next_call, step_ended, stepping}
 use Rattle.lr_graph.specs.Central.{facts_after}
 use Rattle.lr_graph.specs.Closed.{Each}
-use Rattle.lr_graph.specs.Graph.{Carried, Facts, LabelledCall, SentMessage, UpdateCopy, QueryCopy, DoneReply}
+use Rattle.lr_graph.specs.Graph.{Acceptance, Carried, Facts, LabelledCall, SentMessage, UpdateCopy, QueryCopy}
+use Rattle.lr_graph.specs.Graph.{DoneReply}
 use Rattle.lr_graph.specs.Graph.{AnswerReply}
 use Rattle.lr_graph.specs.Graph.{GossipOf, Blank, first_facts, is_within, ready, value}
 use Rattle.lr_graph.specs.Legal.{IsLegal, accept_lines, answer_line, answers, answers_at, call_lines, delivery_lines}
@@ -42,15 +43,18 @@ module _ {Value Op : Type 0} (m : Meaning Value Op) (n i client : ℕ) (cid : Ci
   line = Send n (Replica i) (Client client) (Answer cid text)
 
   -- the text is what is read, for a query of which a copy was sent, after what is ready; and the answer was sent
-  pub record IsSpoken (w : Facts Op) : Type 0 where
+  pub record IsSaid (l : List (Acceptance Op)) (r : SpotSet) (messages : List (SentMessage Op)) : Type 0 where
     pub call : LabelledCall Op
-    pub asked : WasSent w.messages (QueryCopy call)
+    pub asked : WasSent messages (QueryCopy call)
     pub name : call.cid ≡ cid
-    pub text_is : text ≡ m.read (value m w.accepted (ready w.accepted (w.received i))) call.op
+    pub text_is : text ≡ m.read (value m l (ready l r)) call.op
     pub answer : SentMessage Op
-    pub among : IsAmong answer w.messages
+    pub among : IsAmong answer messages
     pub number : answer.number ≡ n
-    pub what : answer.what ≡ AnswerReply cid (ready w.accepted (w.received i))
+    pub what : answer.what ≡ AnswerReply cid (ready l r)
+
+  abbrev pub IsSpoken : Facts Op → Type 0
+  IsSpoken w = IsSaid w.accepted (w.received i) w.messages
 
   -- more is sent
   spoken-more : (w : Facts Op) (new : List (SentMessage Op)) → IsSpoken w
@@ -233,31 +237,17 @@ module _ {Value Op : Type 0} (m : Meaning Value Op) (n i client : ℕ) (cid : Ci
           | inr last ↦ inr last
         ]))
       where
-        ended : (j : ℕ) (u : Facts Op) → IsSpoken u → IsSpoken (end_read u j)
-        ended j u s = record {
-          call = s.call;
-          asked = s.asked;
-          name = s.name;
-          text_is = s.text_is;
-          answer = s.answer;
-          among = s.among;
-          number = s.number;
-          what = s.what;
-        }
-
         by_actor : (o : Option ℕ) (mid : Facts Op) (x : Option (SentMessage Op)) → Keeps fresh mid
             → IsSpoken mid ⊎ IsAmong line (answers_at m mid o)
             → IsSpoken (step_ended o (lines_read x mid (answers_at m mid o)))
         by_actor None mid x k (inl s) = s
         by_actor None mid x k (inr none) = absurd none
         by_actor (Some j) mid x k (inr among) =
-            ended j (lines_read x mid (answers_at m mid (Some j)))
-            (answers-spoken mid j x (next_number mid) (mid.held j)
-            mid.messages (each-map _ _ (mid.held j) (λ c f. f.1) (k.held j)) among)
+            answers-spoken mid j x (next_number mid) (mid.held j) mid.messages
+            (each-map _ _ (mid.held j) (λ c f. f.1) (k.held j)) among
         by_actor (Some j) mid x k (inl s) =
             let rest = answers-send m mid j x (next_number mid) (mid.held j) mid.messages in
-            ended j (lines_read x mid (answers_at m mid (Some j)))
-            (subst IsSpoken (sym rest.1) (spoken-more mid rest.0 s))
+            subst IsSpoken (sym rest.1) (spoken-more mid rest.0 s)
 
 -- ---- where it is taken
 

@@ -33,7 +33,8 @@ use Rattle.lr_graph.specs.Runs.{RunState, message_at}
 use Rattle.lr_graph.specs.Sets.{SpotSet, put_at, only, ◌∪◌}
 use Rattle.lr_graph.proofs.Lists.Members.{each-append, each-at, each-map, filter-each, find-some}
 use Rattle.lr_graph.proofs.Lists.Tests.{or-left, same_spot-self}
-use Rattle.lr_graph.proofs.Promised.Changes.{IsFine, IsNext, Keeps, Rule, WasSent, opened-more, query-fine, update-fine}
+use Rattle.lr_graph.proofs.Promised.Changes.{IsFine, IsHeldFine, IsNext, Keeps, Rule, WasSent, opened-more}
+use Rattle.lr_graph.proofs.Promised.Changes.{query-fine, update-fine}
 use Rattle.lr_graph.proofs.Promised.Changes.{next-accepted, next-front, next-holding, next-more, next-same, next-sent}
 use Rattle.lr_graph.proofs.Promised.Changes.{next-taken}
 use Rattle.lr_graph.proofs.Related.Relation.{IsSame, IsThere, SameMessage, SameOption, calls_in}
@@ -154,10 +155,6 @@ module _ {Value Op : Type 0} (m : Meaning Value Op) (config : Config) (R : Rule)
   IsOpened w = (n : ℕ → ℕ) (client : ℕ) (cid : Cid) → cid.client ≡ client → cid.seq ≡ suc (calls_in w client)
       → n client ≡ suc (calls_in w client) → R.of n cid (w.front client).label × R.of_open client cid
 
-  -- the rule holds of what is held, and this was sent
-  abbrev IsHeldFine : Facts Op → LabelledCall Op → Type 0
-  IsHeldFine w call = R.of (calls_in w) call.cid call.label × WasSent w.messages (QueryCopy call)
-
   module _ (w : Facts Op) (h : Keeps R w) where
     -- ---- a message comes
 
@@ -192,7 +189,7 @@ module _ {Value Op : Type 0} (m : Meaning Value Op) (config : Config) (R : Rule)
           (answered (calls_in w) call.cid call.label (w.received i) fine e)
       query-next false true answered sent e =
           next-holding R i w h (w.held i ++ call ∷ []) w.kept
-          (each-append (IsHeldFine w) (w.held i) (call ∷ []) (h.held i) ((fine, sent), tt))
+          (each-append (IsHeldFine R w) (w.held i) (call ∷ []) (h.held i) ((fine, sent), tt))
       query-next false false answered sent e = next-same R (Some i) w h
 
     -- a front end takes the reply, or it is stale
@@ -320,7 +317,7 @@ module _ {Value Op : Type 0} (m : Meaning Value Op) (config : Config) (R : Rule)
   ended-next i w h =
       let waits = λ (call : LabelledCall Op). not (is_within w.accepted call.label (w.received i)) in
       next-holding R i w h (filter waits (w.held i)) (end_read w i).kept
-      (each-map _ _ (filter waits (w.held i)) (λ c k. k.0) (filter-each (IsHeldFine w) waits (w.held i) (h.held i)))
+      (each-map _ _ (filter waits (w.held i)) (λ c k. k.0) (filter-each (IsHeldFine R w) waits (w.held i) (h.held i)))
 
   module _ (w : Facts Op) (i : ℕ) (x : Option (SentMessage Op)) (answered : IsAnswered w.accepted) where
     abbrev now : List (SentMessage Op) → Facts Op
