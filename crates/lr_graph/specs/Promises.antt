@@ -13,8 +13,8 @@ use Rattle.lr_base.specs.declared.names.Spot.{Spot}
 use Rattle.lr_graph.specs.After.{delivery_of}
 use Rattle.lr_graph.specs.Central.{facts_after}
 use Rattle.lr_graph.specs.Closed.{Each}
-use Rattle.lr_graph.specs.Graph.{Carried, Facts, LabelledCall, SentMessage, QueryCopy, DoneReply, AnswerReply}
-use Rattle.lr_graph.specs.Graph.{first_facts, value}
+use Rattle.lr_graph.specs.Graph.{Acceptance, Carried, Facts, LabelledCall, SentMessage, first_facts, value}
+use Rattle.lr_graph.specs.Graph.{QueryCopy, DoneReply, AnswerReply}
 use Rattle.lr_graph.specs.Sets.{SpotSet}
 
 -- the facts of a history
@@ -42,6 +42,14 @@ TakesDone before step client cid names = Takes before step client cid (DoneReply
 -- a client is told the answer to its query: it was read after what this set names
 abbrev pub TakesAnswer : {Op : Type 0} → List (Step Op) → Step Op → ℕ → Cid → SpotSet → Type 0
 TakesAnswer before step client cid names = Takes before step client cid (AnswerReply cid names)
+
+-- the acceptance of this call that a reply with these names stands for is in the set
+pub record HasDone {Op : Type 0} (accepted : List (Acceptance Op)) (cid : Cid) (names set : SpotSet) : Type 0 where
+  pub acceptance : Acceptance Op
+  pub among : IsAmong acceptance accepted
+  pub call : acceptance.cid ≡ cid
+  pub below : acceptance.below ≡ names
+  pub there : set acceptance.spot ≡ true
 
 -- the text is what the service reads after the set, for the query of this name, a copy of which was sent
 pub record IsReadAfter {Value Op : Type 0} (m : Meaning Value Op) (w : Facts Op) (set : SpotSet) (cid : Cid)

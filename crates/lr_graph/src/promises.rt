@@ -7,11 +7,11 @@ ghost use Rattle.lr_base.specs.declared.events.Outcome.TheVariants.{Send};
 ghost use Rattle.lr_base.specs.declared.events.Sent.TheVariants.{Answer};
 ghost use Rattle.lr_base.specs.declared.names.Actor.TheVariants.{Client, Replica};
 ghost use Rattle.lr_graph.specs.Closed.{Each};
-ghost use Rattle.lr_graph.specs.Graph.{Acceptance, has_call, ready, value};
+ghost use Rattle.lr_graph.specs.Graph.{Acceptance, ready, value};
 ghost use Rattle.lr_graph.specs.Legal.{IsLegal};
 ghost use Rattle.lr_graph.specs.Orderings.{FollowsCauses, everything, ready_as_made};
-ghost use Rattle.lr_graph.specs.Promises.{◌⊆◌, CallsUpdate, HasReceivedAll, HaveReceivedAlike, IsReadAfter};
-ghost use Rattle.lr_graph.specs.Promises.{IsRound, TakesAnswer, TakesDone, facts_of};
+ghost use Rattle.lr_graph.specs.Promises.{◌⊆◌, CallsUpdate, HasDone, HasReceivedAll, HaveReceivedAlike};
+ghost use Rattle.lr_graph.specs.Promises.{IsReadAfter, IsRound, TakesAnswer, TakesDone, facts_of};
 ghost use Rattle.lr_graph.specs.Sets.{SpotSet};
 ghost use Rattle.lr_graph.specs.Slow.{value_after};
 
@@ -37,8 +37,8 @@ pub fn answers_are_read_after_what_is_ready<S: Service>()
         → IsReadAfter S.meaning (facts_of (before ++ sending ∷ [])) seen cid text }
 {}
 
-/// Read your writes: each answer that a client takes was read after all of its updates that it was told are done,
-/// and after all that these stand for.
+/// Read your writes: each answer that a client takes was read after each of its updates that it was told are done
+/// before, with all that the reply stands for.
 pub fn clients_read_their_writes<S: Service>()
     ensures all { (config : Config) (before between later : List (Step S.Op)) (done answer : Step S.Op)
         (client : ℕ) (write read : Cid) (names seen : SpotSet)
@@ -47,13 +47,13 @@ pub fn clients_read_their_writes<S: Service>()
         → TakesDone before done client write names
         → TakesAnswer (before ++ done ∷ between) answer client read seen
         → names ⊆ seen }
-    ensures call { (config : Config) (before between later : List (Step S.Op)) (done answer : Step S.Op)
+    ensures done { (config : Config) (before between later : List (Step S.Op)) (done answer : Step S.Op)
         (client : ℕ) (write read : Cid) (names seen : SpotSet)
         → Each (λ step. IsEventOf S.meaning config step.event) (before ++ done ∷ between ++ answer ∷ later)
         → IsLegal S.meaning config (before ++ done ∷ between ++ answer ∷ later)
         → TakesDone before done client write names
         → TakesAnswer (before ++ done ∷ between) answer client read seen
-        → has_call (facts_of before).accepted seen write ≡ true }
+        → HasDone (facts_of before).accepted write names seen }
 {}
 
 /// Monotonic reads: each answer that a client takes was read after all that its earlier answers were read after.
@@ -67,8 +67,8 @@ pub fn reads_are_monotonic<S: Service>()
         → seen ⊆ seen_later }
 {}
 
-/// Monotonic writes: wherever an update is accepted, all of its client's updates that this was told are done before
-/// it called are below it, and all that these stand for.
+/// Monotonic writes: wherever an update is accepted, each of its client's updates that this was told are done before
+/// it called is below it, with all that the reply stands for.
 pub fn writes_are_monotonic<S: Service>()
     ensures all { (config : Config) (before between later : List (Step S.Op)) (done call : Step S.Op)
         (client : ℕ) (first second : Cid) (names : SpotSet) (a : Acceptance S.Op)
@@ -77,13 +77,13 @@ pub fn writes_are_monotonic<S: Service>()
         → TakesDone before done client first names → CallsUpdate call client second
         → IsAmong a (facts_of (before ++ done ∷ between ++ call ∷ later)).accepted → a.cid ≡ second
         → names ⊆ a.below }
-    ensures call { (config : Config) (before between later : List (Step S.Op)) (done call : Step S.Op)
+    ensures done { (config : Config) (before between later : List (Step S.Op)) (done call : Step S.Op)
         (client : ℕ) (first second : Cid) (names : SpotSet) (a : Acceptance S.Op)
         → Each (λ step. IsEventOf S.meaning config step.event) (before ++ done ∷ between ++ call ∷ later)
         → IsLegal S.meaning config (before ++ done ∷ between ++ call ∷ later)
         → TakesDone before done client first names → CallsUpdate call client second
         → IsAmong a (facts_of (before ++ done ∷ between ++ call ∷ later)).accepted → a.cid ≡ second
-        → has_call (facts_of before).accepted a.below first ≡ true }
+        → HasDone (facts_of before).accepted first names a.below }
 {}
 
 /// Writes follow reads: wherever an update is accepted, all that its client's answers were read after before it

@@ -16,9 +16,8 @@ use Rattle.lr_base.specs.declared.names.Config.{Config}
 use Rattle.lr_graph.specs.After.{after}
 use Rattle.lr_graph.specs.Central.{facts_after}
 use Rattle.lr_graph.specs.Graph.{Acceptance, Carried, DoneReply, Facts, LabelledCall, AnswerReply, first_facts}
-use Rattle.lr_graph.specs.Graph.{has_call}
 use Rattle.lr_graph.specs.Legal.{IsLegal, call_lines, next_number, outcomes_of}
-use Rattle.lr_graph.specs.Promises.{◌⊆◌, CallsUpdate, Takes, facts_of}
+use Rattle.lr_graph.specs.Promises.{◌⊆◌, CallsUpdate, HasDone, Takes, facts_of}
 use Rattle.lr_graph.specs.Runs.{RunState, stepped}
 use Rattle.lr_graph.specs.Sets.{SpotSet}
 use Rattle.lr_graph.proofs.Lists.Members.{each-at}
@@ -27,7 +26,6 @@ use Rattle.lr_graph.proofs.Promised.Points.{Fits, IsPoint, any-point, each-parts
 use Rattle.lr_graph.proofs.Promised.Sessions.{HasTaken, IsReply, IsTold, above, reply-taken, taken-told, told-later}
 use Rattle.lr_graph.proofs.Related.Relation.{calls_in}
 use Rattle.lr_graph.proofs.Sets.ReadySets.{self-below}
-use Rattle.lr_graph.proofs.Sets.Values.{holds-has_call}
 
 -- ---- the name of a call
 
@@ -157,7 +155,7 @@ module _ {Value Op : Type 0} (m : Meaning Value Op) (kind_of : Op → Kind) (law
 
     -- the update that was done is in each set that has what the reply stands for
     pub done-there : (set : SpotSet) → reply ≡ DoneReply first names → names ⊆ set
-        → has_call (facts_of before).accepted set first ≡ true
+        → HasDone (facts_of before).accepted first names set
     done-there set is_done within =
         let u = facts_of before in
         let fit = each-parts _ before (one ∷ between) first_fits.0 in
@@ -167,4 +165,10 @@ module _ {Value Op : Type 0} (m : Meaning Value Op) (kind_of : Op → Kind) (law
         let a = subst (IsFine (fresh.of (calls_in u)) u.accepted) (took.what ∙ is_done)
         (each-at _ took.message u.messages at.1.keeps.messages got.among) in
         let self = self-below u.accepted at.1.same.shared.sound.older a.0 a.1 in
-        holds-has_call u.accepted set first a.0 a.1 (within _ (ap (λ x. x a.0.spot) (sym a.3) ∙ self)) a.2
+        record {
+          acceptance = a.0;
+          among = a.1;
+          call = a.2;
+          below = a.3;
+          there = within _ (ap (λ x. x a.0.spot) (sym a.3) ∙ self);
+        }

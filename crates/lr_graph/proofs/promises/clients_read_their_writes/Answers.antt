@@ -8,8 +8,8 @@ returns-clause-all g c config before between later done answer client write read
     told-answer g.S.Service.meaning _ g.met.S.Service.lawful config before between later done answer fits legal client
     write read names (DoneReply write names) (refl, refl) took seen takes
 
-pub returns-clause-call : goal.returns-clause-call
-returns-clause-call g c config before between later done answer client write read names seen fits legal took takes =
+pub returns-clause-done : goal.returns-clause-done
+returns-clause-done g c config before between later done answer client write read names seen fits legal took takes =
     let m = g.S.Service.meaning in
     let told = told-answer m _ g.met.S.Service.lawful config before between later done answer fits legal client
     write read names (DoneReply write names) (refl, refl) took seen takes in

@@ -8,8 +8,8 @@ returns-clause-all g c config before between later done call f first second name
     told-update g.S.Service.meaning _ g.met.S.Service.lawful config before between later done call fits legal f
     first second names (DoneReply first names) (refl, refl) took calls a member of
 
-pub returns-clause-call : goal.returns-clause-call
-returns-clause-call g c config before between later done call f first second names a fits legal took calls member of =
+pub returns-clause-done : goal.returns-clause-done
+returns-clause-done g c config before between later done call f first second names a fits legal took calls member of =
     let m = g.S.Service.meaning in
     let told = told-update m _ g.met.S.Service.lawful config before between later done call fits legal f
     first second names (DoneReply first names) (refl, refl) took calls a member of in
