@@ -14,3 +14,4 @@ pub mod Answers
 pub mod Tables
 pub mod Told
 pub mod Slow
+pub mod Promises

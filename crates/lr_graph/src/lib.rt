@@ -3,6 +3,7 @@
 
 mod facts;
 mod laws;
+mod promises;
 mod slow;
 mod worked;
 
@@ -10,6 +11,11 @@ pub use laws::{
     a_made_history_goes_on, answers_are_printable, every_order_gives_one_value,
     legal_histories_are_one, ready_is_the_greatest_closed_set, runs_are_legal,
     stamps_stand_for_sets, what_is_made_is_legal,
+};
+pub use promises::{
+    answers_are_read_after_what_is_ready, causes_come_first, clients_read_their_writes,
+    one_round_of_gossip_is_enough, reads_are_monotonic, replicas_converge, writes_are_monotonic,
+    writes_follow_reads,
 };
 pub use slow::{ready_of, value_of};
 pub use worked::{

@@ -1,0 +1,124 @@
+-- Points of legal histories, and what holds between an earlier and a later one.
+use Rattle.std.proofs.Common.{◌≡◌, ◌≤◌, List, [], ◌∷◌, ◌++◌, refl, sym, ap, ◌∙◌, subst, true≢false, arith}
+use Rattle.lr_base.specs.Events.{IsEventOf}
+use Rattle.lr_base.specs.Meaning.{Lawful, Meaning}
+use Rattle.lr_base.specs.declared.events.Outcome.{Outcome}
+use Rattle.lr_base.specs.declared.events.Step.{Step}
+use Rattle.lr_base.specs.declared.lr_service.Kind.{Kind}
+use Rattle.lr_base.specs.declared.names.Config.{Config}
+use Rattle.lr_graph.specs.After.{after, stepping}
+use Rattle.lr_graph.specs.Central.{facts_after}
+use Rattle.lr_graph.specs.Closed.{Each, IsAccepted, IsSetOf, IsSound}
+use Rattle.lr_graph.specs.Graph.{Acceptance, Facts, first_facts}
+use Rattle.lr_graph.specs.Legal.{IsLegal, LegalFrom, outcomes_of}
+use Rattle.lr_graph.specs.Promises.{facts_of}
+use Rattle.lr_graph.specs.Runs.{RunState, first_run, stepped}
+use Rattle.lr_graph.specs.Sets.{SpotSet, same_spot}
+use Rattle.lr_graph.proofs.Events.EachEvent.{same-step}
+use Rattle.lr_graph.proofs.Histories.Law.{first-same}
+use Rattle.lr_graph.proofs.Lists.Members.{each-at, each-map}
+use Rattle.lr_graph.proofs.Lists.Tests.{same_spot-self}
+use Rattle.lr_graph.proofs.Promised.Changes.{IsLater, IsNext, Keeps, Rule, later-more, later-self}
+use Rattle.lr_graph.proofs.Promised.Walk.{step-next}
+use Rattle.lr_graph.proofs.Related.More.{set-more}
+use Rattle.lr_graph.proofs.Related.Relation.{IsSame}
+
+-- a set of acceptances stays one where more are made
+sound-older : {Op : Type 0} (a : Acceptance Op) (l : List (Acceptance Op)) → IsSound (a ∷ l) → IsSound l
+sound-older a l sound = record {
+  apart = sound.apart.1;
+  closed = each-map _ _ l (λ b closed. each-map _ _ l (λ c f here. (f here).1) closed.1) sound.closed.1;
+  older = sound.older.2;
+  numbered = sound.numbered.1;
+}
+
+pub set-later : {Op : Type 0} (l new : List (Acceptance Op)) (x : SpotSet) → IsSound (new ++ l) → IsSetOf l x
+    → IsSetOf (new ++ l) x
+set-later l [] x sound set = set
+set-later {Op} l (a ∷ new) x sound set =
+    let older = sound-older a (new ++ l) sound in
+    set-more (new ++ l) a free older x (set-later l new x older set)
+  where
+    free : IsAccepted (new ++ l) a.spot → ⊥
+    free b =
+        let self = ap (same_spot b.0.spot) (sym b.2) ∙ same_spot-self b.0.spot in
+        true≢false (sym self ∙ each-at _ b.0 (new ++ l) sound.apart.0 b.1)
+
+-- ---- histories in parts
+
+pub facts-parts : {Op : Type 0} (steps more : List (Step Op)) (w : Facts Op)
+    → facts_after w (steps ++ more) ≡ facts_after (facts_after w steps) more
+facts-parts [] more w = refl
+facts-parts (step ∷ steps) more w = facts-parts steps more (after w step)
+
+pub each-parts : {A : Type 0} (P : A → Type 0) (xs ys : List A) → Each P (xs ++ ys) → Each P xs × Each P ys
+each-parts P [] ys all = (tt, all)
+each-parts P (x ∷ xs) ys all = let rest = each-parts P xs ys all.1 in ((all.0, rest.0), rest.1)
+
+pub legal-parts : {Value Op : Type 0} (m : Meaning Value Op) (config : Config) (steps more : List (Step Op))
+    (w : Facts Op) → LegalFrom m config w (steps ++ more)
+    → LegalFrom m config w steps × LegalFrom m config (facts_after w steps) more
+legal-parts m config [] more w legal = (tt, legal)
+legal-parts m config (step ∷ steps) more w legal =
+    let rest = legal-parts m config steps more (after w step) legal.1 in
+    ((legal.0, rest.0), rest.1)
+
+-- ---- points
+
+-- no call has a greater number than its front end made, and an open call is its own front end's
+abbrev pub fresh : Rule
+fresh = record {
+  of = λ n cid x. cid.seq ≤ n cid.client;
+  of_open = λ client cid. cid.client ≡ client;
+  counts = λ n more up cid x f. (let u = up cid.client in omega arith);
+  grows = λ n cid x y f. f;
+}
+
+-- facts that belong to a run, in which all calls were made
+pub record IsPoint {Value Op : Type 0} (m : Meaning Value Op) (config : Config) (w : Facts Op)
+    (v : RunState Value Op) : Type 0 where
+  pub same : IsSame m config w v
+  pub keeps : Keeps fresh w
+
+-- the events of these steps are events of the run
+abbrev pub Fits : {Value Op : Type 0} → Meaning Value Op → Config → List (Step Op) → Type 0
+Fits m config steps = Each (λ step. IsEventOf m config step.event) steps
+
+module _ {Value Op : Type 0} (m : Meaning Value Op) (kind_of : Op → Kind) (lawful : Lawful m kind_of)
+    (config : Config) where
+  abbrev Point : Facts Op → RunState Value Op → Type 0
+  Point w v = IsPoint m config w v
+
+  pub first-point : Point first_facts (first_run m config)
+  first-point = record {
+    same = first-same m config;
+    keeps = record { accepted = tt; messages = tt; held = λ i. tt; opened = λ client. tt; numbered = tt };
+  }
+
+  pub step-point : (w : Facts Op) (v : RunState Value Op) → Point w v → (step : Step Op)
+      → IsEventOf m config step.event → step.outcomes ≡ outcomes_of m config w step.event
+      → Point (after w step) (stepped m v step.event).run × IsNext fresh (stepping w step.event) w (after w step)
+  step-point w v p step fits legal =
+      let run = (stepped m v step.event).run in
+      let ended = λ (lines : List Outcome). after w (record { event = step.event; outcomes = lines }) in
+      let same = subst (λ lines. IsSame m config (ended lines) run) (sym legal)
+      (same-step m kind_of lawful config w v p.same step.event fits).same in
+      let next = step-next m config fresh w v p.keeps p.same (λ n cid x r f e. f)
+      (λ n client cid own seq e. (let i = ap n own in omega arith, own)) step legal (λ n cid x r f e. f) in
+      (record { same = same; keeps = next.keeps }, next)
+
+  -- a later point of a legal history
+  pub later-point : (steps : List (Step Op)) (w : Facts Op) (v : RunState Value Op) → Point w v → Fits m config steps
+      → LegalFrom m config w steps
+      → (u : RunState Value Op) × Point (facts_after w steps) u × IsLater w (facts_after w steps)
+  later-point [] w v p fits legal = (v, p, later-self w)
+  later-point (step ∷ steps) w v p fits legal =
+      let one = step-point w v p step fits.0 legal.0 in
+      let rest = later-point steps (after w step) (stepped m v step.event).run one.0 fits.1 legal.1 in
+      (rest.0, rest.1, later-more w (after w step) (facts_after (after w step) steps) one.1.later rest.2)
+
+  pub any-point : (steps : List (Step Op)) → Fits m config steps → IsLegal m config steps
+      → (u : RunState Value Op) × Point (facts_of steps) u
+  any-point steps fits legal =
+      let p = later-point steps first_facts (first_run m config) first-point fits legal in
+      (p.0, p.1)

@@ -1,0 +1,369 @@
+-- What a legal step changes, and what goes on to hold.
+use Rattle.std.proofs.Common.{◌≡◌, ◌^◌, ℕ, suc, ◌<◌, max, Bool, true, false, cond, ◌==◌, not, filter, find, inl}
+use Rattle.std.proofs.Common.{List, [], ◌∷◌, ◌++◌, length, Option, Some, None, refl, sym, ap, ◌∙◌, subst, arith}
+use Rattle.std.proofs.lemmas.List.{append_assoc}
+use Rattle.std.specs.Option.{option_map}
+use Rattle.lr_base.specs.Kinds.{is_query}
+use Rattle.lr_base.specs.Meaning.{Meaning}
+use Rattle.lr_base.specs.Orders.{IsAmong}
+use Rattle.lr_base.specs.Rules.{known_of, same_cid}
+use Rattle.lr_base.specs.declared.acts.Posted.{Posted}
+use Rattle.lr_base.specs.declared.events.Event.{Event}
+use Rattle.lr_base.specs.declared.events.Event.TheVariants.{Call, Deliver, Gossip as GossipEvent, Show}
+use Rattle.lr_base.specs.declared.events.Outcome.{Outcome}
+use Rattle.lr_base.specs.declared.events.Outcome.TheVariants.{Got, Send, Stale}
+use Rattle.lr_base.specs.declared.events.Sent.TheVariants.{Update, Query, Done, Answer, Gossip}
+use Rattle.lr_base.specs.declared.events.Step.{Step}
+use Rattle.lr_base.specs.declared.messages.Known.{Known}
+use Rattle.lr_base.specs.declared.names.Actor.{Actor}
+use Rattle.lr_base.specs.declared.names.Actor.TheVariants.{Client, Replica}
+use Rattle.lr_base.specs.declared.names.Cid.{Cid}
+use Rattle.lr_base.specs.declared.names.Config.{Config}
+use Rattle.lr_base.specs.declared.names.Spot.{Spot}
+use Rattle.lr_graph.specs.After.{accepts, after, call_read, delivery_of, end_read, event_read, line_read, lines_read}
+use Rattle.lr_graph.specs.After.{got_read, receiving, step_ended, stepping, takes_reply}
+use Rattle.lr_graph.specs.Closed.{Each, HasApartSpots}
+use Rattle.lr_graph.specs.Graph.{Acceptance, Carried, Facts, FrontFacts, LabelledCall, SentMessage}
+use Rattle.lr_graph.specs.Graph.{UpdateCopy, QueryCopy, DoneReply, AnswerReply, GossipOf, Blank}
+use Rattle.lr_graph.specs.Graph.{below_of, is_within, kept_spot, made, ready}
+use Rattle.lr_graph.specs.Legal.{accept_lines, answer_line, answers, answers_at, call_lines, delivery_lines, logged}
+use Rattle.lr_graph.specs.Legal.{message_lines, next_number, outcomes_of, own_lines, query_lines, reply_line}
+use Rattle.lr_graph.specs.Legal.{taken_at, update_lines}
+use Rattle.lr_graph.specs.Runs.{RunState, message_at}
+use Rattle.lr_graph.specs.Sets.{SpotSet, put_at, only, ◌∪◌}
+use Rattle.lr_graph.proofs.Lists.Members.{each-append, each-at, each-map, filter-each, find-some}
+use Rattle.lr_graph.proofs.Lists.Tests.{or-left, same_spot-self}
+use Rattle.lr_graph.proofs.Promised.Changes.{IsFine, IsHeldFine, IsNext, Keeps, Rule, WasSent, opened-more}
+use Rattle.lr_graph.proofs.Promised.Changes.{query-fine, update-fine}
+use Rattle.lr_graph.proofs.Promised.Changes.{next-accepted, next-front, next-holding, next-more, next-same, next-sent}
+use Rattle.lr_graph.proofs.Promised.Changes.{next-taken}
+use Rattle.lr_graph.proofs.Related.Relation.{IsSame, IsThere, SameMessage, SameOption, calls_in}
+use Rattle.lr_graph.proofs.Related.Ties.{IsTableOf}
+use Rattle.lr_graph.proofs.Replicas.Own.{below_of-is}
+use Rattle.lr_graph.proofs.Replicas.Stepping.{lines_read-append}
+use Rattle.lr_graph.proofs.Sets.KeptSpots.{least_spot-is}
+
+-- ---- the end of a replica's step
+
+module _ {Value Op : Type 0} (m : Meaning Value Op) (w : Facts Op) (i : ℕ) (x : Option (SentMessage Op)) where
+  -- answers only send
+  abbrev pub Sends : List (SentMessage Op) → List Outcome → Type 0
+  Sends messages lines =
+      (new : List (SentMessage Op))
+      × (lines_read x (record w { messages = messages }) lines ≡ record w { messages = new ++ messages })
+
+  pub answers-send : (number : ℕ) (calls : List (LabelledCall Op)) (messages : List (SentMessage Op))
+      → Sends messages (answers m w number i calls)
+  answers-send number [] messages = ([], refl)
+  answers-send number (call ∷ calls) messages =
+      by_test (is_within w.accepted call.label (w.received i)) (λ more. answers-send (suc number) calls more)
+      (answers-send number calls messages)
+    where
+      by_test : (t : Bool) → ((more : List (SentMessage Op)) → Sends more (answers m w (suc number) i calls))
+          → Sends messages (answers m w number i calls)
+          → Sends messages (cond t (answer_line m w number i call ∷ answers m w (suc number) i calls)
+          (answers m w number i calls))
+      by_test false sent none = none
+      by_test true sent none =
+          let one : SentMessage Op = record {
+            number = number;
+            from = Replica i;
+            to = Client call.cid.client;
+            what = AnswerReply call.cid (ready w.accepted (w.received i));
+          } in
+          let rest = sent (one ∷ messages) in (
+            rest.0 ++ one ∷ [],
+            rest.1
+                ∙ ap (λ l. record w { messages = l }) (sym (append_assoc rest.0 (one ∷ []) messages)),
+          )
+
+module _ {Value Op : Type 0} (m : Meaning Value Op) (config : Config) (w : Facts Op) where
+  -- the facts after the lines of the event itself
+  abbrev pub own_read : Event Op → Facts Op
+  own_read event = lines_read (delivery_of w event) (event_read w event) (own_lines m config w event)
+
+  module _ (step : Step Op) (legal : step.outcomes ≡ outcomes_of m config w step.event) where
+    pub after-parts : after w step ≡ step_ended (stepping w step.event) (lines_read (delivery_of w step.event)
+        (own_read step.event) (answers_at m (own_read step.event) (stepping w step.event)))
+    after-parts =
+        let x = delivery_of w step.event in
+        let start = event_read w step.event in
+        ap (λ (lines : List Outcome). step_ended (stepping w step.event) (lines_read x start lines)) legal
+        ∙ ap (step_ended (stepping w step.event)) (lines_read-append x start (own_lines m config w step.event) _)
+
+    -- behind its own part a step of a replica only sends, and then ends
+    pub after-ended : (i : ℕ) → stepping w step.event ≡ Some i → (new : List (SentMessage Op))
+        × (after w step ≡ end_read
+        (record (own_read step.event) { messages = new ++ (own_read step.event).messages }) i)
+    after-ended i e =
+        let mid = own_read step.event in
+        let x = delivery_of w step.event in
+        let sent = answers-send m mid i x (next_number mid) (mid.held i) mid.messages in (
+          sent.0,
+          after-parts ∙ ap (λ o. step_ended o (lines_read x mid (answers_at m mid o))) e
+              ∙ ap (λ (u : Facts Op). end_read u i) sent.1,
+        )
+
+-- ---- an update that was taken before
+
+-- a replica took a call at an acceptance of it
+abbrev IsDone : {Op : Type 0} → List (Acceptance Op) → Cid → Spot → Type 0
+IsDone {Op} l cid spot = (a : Acceptance Op) × IsAmong a l × (a.cid ≡ cid) × (a.spot ≡ spot)
+
+module _ {Value Op : Type 0} (m : Meaning Value Op) (config : Config) (w : Facts Op) (v : RunState Value Op)
+    (same : IsSame m config w v) where
+  taken-again : (i : ℕ) → i < config.replicas → (cid : Cid) (spot : Spot)
+      → taken_at config w i cid (kept_spot (w.kept i) cid) ≡ Some spot → IsDone w.accepted cid spot
+  taken-again i here cid spot e = by_kept (kept_spot (w.kept i) cid) refl e
+    where
+      none_some : ◌≡◌ {A = Option Spot} None (Some spot) → ⊥
+      none_some e = cc
+
+      by_kept : (o : Option Spot) → kept_spot (w.kept i) cid ≡ o → taken_at config w i cid o ≡ Some spot
+          → IsDone w.accepted cid spot
+      by_kept None kept e =
+          let a = least_spot-is w.accepted (logged config w i) cid spot e in
+          (a.0, a.1, a.3, a.4)
+      by_kept (Some s) kept e = let tied = same.replicas i here in by_table tied.0.calls tied.2.applied.table
+        where
+          by_table : (calls : List (Cid × Known))
+              → IsTableOf w.accepted (ready w.accepted (w.received i)) (w.kept i) calls → IsDone w.accepted cid spot
+          by_table calls table = by_known (known_of calls cid) refl (table.spots cid ∙ kept ∙ e)
+            where
+              by_known : (o : Option Known) → known_of calls cid ≡ o → option_map (λ k. k.spot) o ≡ Some spot
+                  → IsDone w.accepted cid spot
+              by_known None known e = absurd (none_some e)
+              by_known (Some k) known e =
+                  let a = table.stamps cid k known in
+                  let is : k.spot ≡ spot = cc in
+                  (a.0, a.1, a.3, sym a.2 ∙ is)
+
+-- ---- a rule goes on to hold
+
+module _ {Value Op : Type 0} (m : Meaning Value Op) (config : Config) (R : Rule) where
+  -- facts that come next
+  abbrev pub Next : Option ℕ → Facts Op → Facts Op → Type 0
+  Next at w next = IsNext R at w next
+
+  -- where a label is received, the rule holds of what is ready too
+  abbrev pub IsAnswered : List (Acceptance Op) → Type 0
+  IsAnswered l =
+      (n : ℕ → ℕ) (cid : Cid) (x r : SpotSet) → R.of n cid x → is_within l x r ≡ true → R.of n cid (ready l r)
+
+  -- the rule holds of a front end's next call
+  abbrev pub IsOpened : Facts Op → Type 0
+  IsOpened w = (n : ℕ → ℕ) (client : ℕ) (cid : Cid) → cid.client ≡ client → cid.seq ≡ suc (calls_in w client)
+      → n client ≡ suc (calls_in w client) → R.of n cid (w.front client).label × R.of_open client cid
+
+  module _ (w : Facts Op) (h : Keeps R w) where
+    -- ---- a message comes
+
+    again-next : (i : ℕ) (x : SentMessage Op) (call : LabelledCall Op) (spot : Spot) → HasApartSpots w.accepted
+        → IsDone w.accepted call.cid spot
+        → Next (Some i) w (lines_read (Some x) w (update_lines config w i call.cid (Some spot)))
+    again-next i x call spot apart a =
+        next-sent R (Some i) w h (Replica i) (Client call.cid.client) (Done call.cid spot)
+        (a.0, a.1, a.2, sym (ap (below_of w.accepted) (sym a.3) ∙ below_of-is w.accepted apart a.0 a.1))
+
+    module _ (i number : ℕ) (from : Actor) (call : LabelledCall Op) (fine : R.of (calls_in w) call.cid call.label) where
+      abbrev message : Carried Op → SentMessage Op
+      message what = record { number = number; from = from; to = Replica i; what = what }
+
+      accepted-next : (time : ℕ) (room left : Bool)
+          → Next (Some i) w (lines_read (Some (message (UpdateCopy call time))) w (accept_lines w i call.cid room left))
+      accepted-next time false left = next-same R (Some i) w h
+      accepted-next time true false = next-same R (Some i) w h
+      accepted-next time true true =
+          let spot : Spot = record { place = i; number = suc (made w.accepted i) } in
+          let a : Acceptance Op =
+          record { spot = spot; cid = call.cid; op = call.op; below = call.label ∪ only spot } in
+          next-more R (Some i) w (accepts w i spot call) _ (next-accepted R i w h spot call fine) (λ k.
+          next-sent R (Some i) (accepts w i spot call) k (Replica i) (Client call.cid.client) (Done call.cid spot)
+          (a, inl refl, refl, sym (ap (λ t. cond t a.below (below_of w.accepted spot)) (same_spot-self spot))))
+
+      query-next : (within room : Bool) → IsAnswered w.accepted → WasSent w.messages (QueryCopy call)
+          → is_within w.accepted call.label (w.received i) ≡ within
+          → Next (Some i) w (lines_read (Some (message (QueryCopy call))) w (query_lines m w i call within room))
+      query-next true room answered sent e =
+          next-sent R (Some i) w h (Replica i) (Client call.cid.client) (Answer call.cid [])
+          (answered (calls_in w) call.cid call.label (w.received i) fine e)
+      query-next false true answered sent e =
+          next-holding R i w h (w.held i ++ call ∷ []) w.kept
+          (each-append (IsHeldFine R w) (w.held i) (call ∷ []) (h.held i) ((fine, sent), tt))
+      query-next false false answered sent e = next-same R (Some i) w h
+
+    -- a front end takes the reply, or it is stale
+    reply-next : (client : ℕ) (cid : Cid) (names : SpotSet) (o : Option (LabelledCall Op)) (x : SentMessage Op)
+        → got_read w x.to x.what ≡ takes_reply w client names
+        → Next None w (lines_read (Some x) w (reply_line o cid ∷ []))
+    reply-next client cid names None x is = next-same R None w h
+    reply-next client cid names (Some call) x is = by_test (same_cid call.cid cid)
+      where
+        taken : FrontFacts Op
+        taken = record (w.front client) { label = (w.front client).label ∪ names; open_call = None }
+
+        by_test : (t : Bool) → Next None w (lines_read (Some x) w (cond t (Got cid) (Stale cid) ∷ []))
+        by_test false = next-same R None w h
+        by_test true =
+            subst (Next None w) (sym is)
+            (next-front R None w h client taken (λ s e. or-left _ _ e) (omega arith) (λ n up e. tt))
+
+    module _ (v : RunState Value Op) (same : IsSame m config w v) (answered : IsAnswered w.accepted) where
+      message-next : (number : ℕ) (from to : Actor) (what : Carried Op) → IsThere config to
+          → IsFine (R.of (calls_in w)) w.accepted what → WasSent w.messages what
+          → Next (receiving (Some (record { number = number; from = from; to = to; what = what }))) w
+          (lines_read (Some (record { number = number; from = from; to = to; what = what })) w
+          (message_lines m config w to what))
+      message-next number from (Replica i) (UpdateCopy call time) here fine sent =
+          by_spot (taken_at config w i call.cid (kept_spot (w.kept i) call.cid)) refl
+        where
+          by_spot : (o : Option Spot) → taken_at config w i call.cid (kept_spot (w.kept i) call.cid) ≡ o
+              → Next (Some i) w
+              (lines_read (Some (message i number from call fine (UpdateCopy call time))) w
+              (update_lines config w i call.cid o))
+          by_spot None e = accepted-next i number from call fine time _ _
+          by_spot (Some spot) e =
+              again-next i (message i number from call fine (UpdateCopy call time)) call spot same.shared.sound.apart
+              (taken-again m config w v same i here call.cid spot e)
+      message-next number from (Replica i) (QueryCopy call) here fine sent =
+          query-next i number from call fine _ _ answered sent refl
+      message-next number from (Replica i) (DoneReply cid names) here fine sent = next-same R (Some i) w h
+      message-next number from (Replica i) (AnswerReply cid names) here fine sent = next-same R (Some i) w h
+      message-next number from (Replica i) (GossipOf names) here fine sent = next-taken R i w h names
+      message-next number from (Replica i) Blank here fine sent = next-same R (Some i) w h
+      message-next number from (Client c) (UpdateCopy call time) here fine sent = next-same R None w h
+      message-next number from (Client c) (QueryCopy call) here fine sent = next-same R None w h
+      message-next number from (Client c) (DoneReply cid names) here fine sent =
+          reply-next c cid names (w.front c).open_call
+          (record { number = number; from = from; to = Client c; what = DoneReply cid names }) refl
+      message-next number from (Client c) (AnswerReply cid names) here fine sent =
+          reply-next c cid names (w.front c).open_call
+          (record { number = number; from = from; to = Client c; what = AnswerReply cid names }) refl
+      message-next number from (Client c) (GossipOf names) here fine sent = next-same R None w h
+      message-next number from (Client c) Blank here fine sent = next-same R None w h
+
+      delivery-next : (n : ℕ) (o : Option (SentMessage Op)) → find (λ x. x.number == n) w.messages ≡ o
+          → Next (receiving o) w (lines_read o w (delivery_lines m config w n o))
+      delivery-next n None e = next-same R None w h
+      delivery-next n (Some x) e =
+          let found = find-some (λ x. x.number == n) w.messages x e in
+          let fine = each-at (λ x. IsFine (R.of (calls_in w)) w.accepted x.what) x w.messages h.messages found.0 in
+          message-next x.number x.from x.to x.what (there (message_at v.posted n)
+          (subst (λ o. SameOption Same o (message_at v.posted n)) e (same.shared.messages n))) fine (x, found.0, refl)
+        where
+          Same : SentMessage Op → Posted Op → Type 0
+          Same x p = SameMessage m config w.accepted w.received same.issued (calls_in w) x p
+
+          there : (p : Option (Posted Op)) → SameOption Same (Some x) p → IsThere config x.to
+          there None s = absurd s
+          there (Some p) s = s.there
+
+    -- ---- a client calls
+
+    clock-next : (client clock : ℕ)
+        → Next None w (record w { front = put_at client (record (w.front client) { clock = clock }) w.front })
+    clock-next client clock =
+        next-front R None w h client (record (w.front client) { clock = clock }) (λ s e. e) (omega arith) (λ n up e.
+        opened-more (R.of (calls_in w)) (R.of n) (R.counts (calls_in w) n up) R.of_open client
+        (w.front client).open_call (h.opened client))
+
+    call-next : IsOpened w → (client replica reading clock : ℕ) (op : Op) (o : Option (LabelledCall Op)) (worn : Bool)
+        → Next None w (lines_read None
+        (record w { front = put_at client (call_read client reading op (w.front client) o worn) w.front })
+        (call_lines m w client replica clock op o worn))
+    call-next opens client replica reading clock op (Some call) worn = clock-next client
+        (max (w.front client).clock reading)
+    call-next opens client replica reading clock op None true = clock-next client (max (w.front client).clock reading)
+    call-next opens client replica reading clock op None false =
+        next-more R None w next _ (next-front R None w h client new (λ s e. e) (omega arith)
+        (λ n up e. opens n client cid refl refl e)) (sent (is_query (m.kind op)))
+      where
+        new : FrontFacts Op
+        new = call_read client reading op (w.front client) None false
+
+        next : Facts Op
+        next = record w { front = put_at client new w.front }
+
+        cid : Cid
+        cid = record { client = client; seq = suc (calls_in w client) }
+
+        sent : (t : Bool) → Keeps R next → Next None next
+            (line_read None next
+            (Send (next_number w) (Client client) (Replica replica) (cond t (Query cid) (Update cid clock))))
+        sent true k =
+            next-sent R None next k (Client client) (Replica replica) (Query cid)
+            (query-fine (R.of (calls_in next)) R.of_open w.accepted client (next.front client).open_call
+            (k.opened client))
+        sent false k =
+            next-sent R None next k (Client client) (Replica replica) (Update cid clock)
+            (update-fine (R.of (calls_in next)) R.of_open w.accepted client clock (next.front client).open_call
+            (k.opened client))
+
+    -- ---- any event's own part
+
+    pub own-next : (v : RunState Value Op) → IsSame m config w v → IsAnswered w.accepted → IsOpened w
+        → (event : Event Op)
+        → Next (stepping w event) w (own_read m config w event)
+    own-next v same answered opens (Call client replica reading op) =
+        call-next opens client replica reading _ op (w.front client).open_call ((w.front client).calls == 2 ^ 62)
+    own-next v same answered opens (Deliver n) = delivery-next v same answered n _ refl
+    own-next v same answered opens (GossipEvent from to) = next-sent R (Some from) w h (Replica from)
+        (Replica to) Gossip tt
+    own-next v same answered opens (Show i) = next-same R None w h
+
+  -- ---- the end of a step
+
+  ended-next : (i : ℕ) (w : Facts Op) → Keeps R w → Next (Some i) w (end_read w i)
+  ended-next i w h =
+      let waits = λ (call : LabelledCall Op). not (is_within w.accepted call.label (w.received i)) in
+      next-holding R i w h (filter waits (w.held i)) (end_read w i).kept
+      (each-map _ _ (filter waits (w.held i)) (λ c k. k.0) (filter-each (IsHeldFine R w) waits (w.held i) (h.held i)))
+
+  module _ (w : Facts Op) (i : ℕ) (x : Option (SentMessage Op)) (answered : IsAnswered w.accepted) where
+    abbrev now : List (SentMessage Op) → Facts Op
+    now messages = record w { messages = messages }
+
+    answers-next : (calls : List (LabelledCall Op)) → Each (λ c. R.of (calls_in w) c.cid c.label) calls
+        → (messages : List (SentMessage Op)) → Keeps R (now messages)
+        → Next (Some i) (now messages) (lines_read x (now messages) (answers m w (suc (length messages)) i calls))
+    answers-next [] fine messages k = next-same R (Some i) (now messages) k
+    answers-next (call ∷ calls) fine messages k =
+        by_test (is_within w.accepted call.label (w.received i)) refl
+        (λ more. answers-next calls fine.1 more) (answers-next calls fine.1 messages k)
+      where
+        by_test : (t : Bool) → is_within w.accepted call.label (w.received i) ≡ t
+            → ((more : List (SentMessage Op)) → Keeps R (now more)
+            → Next (Some i) (now more) (lines_read x (now more) (answers m w (suc (length more)) i calls)))
+            → Next (Some i) (now messages) (lines_read x (now messages) (answers m w (suc (length messages)) i calls))
+            → Next (Some i) (now messages) (lines_read x (now messages)
+            (cond t (answer_line m w (suc (length messages)) i call ∷ answers m w (suc (suc (length messages))) i calls)
+            (answers m w (suc (length messages)) i calls)))
+        by_test false e sent none = none
+        by_test true e sent none =
+            next-more R (Some i) (now messages) _ _
+            (next-sent R (Some i) (now messages) k (Replica i) (Client call.cid.client) (Answer call.cid [])
+            (answered (calls_in w) call.cid call.label (w.received i) fine.0 e)) (sent _)
+
+  -- ---- a whole step
+
+  pub step-next : (w : Facts Op) (v : RunState Value Op) → Keeps R w → IsSame m config w v → IsAnswered w.accepted
+      → IsOpened w → (step : Step Op) → step.outcomes ≡ outcomes_of m config w step.event
+      → IsAnswered (after w step).accepted → Next (stepping w step.event) w (after w step)
+  step-next w v h same answered opens step legal last =
+      let is = after-parts m config w step legal in
+      let own = own-next w h v same answered opens step.event in
+      subst (Next (stepping w step.event) w) (sym is)
+      (by_actor (stepping w step.event) (own_read m config w step.event) (delivery_of w step.event) own
+      (subst (λ (u : Facts Op). IsAnswered u.accepted) is last))
+    where
+      by_actor : (o : Option ℕ) (mid : Facts Op) (x : Option (SentMessage Op)) → Next o w mid
+          → IsAnswered (step_ended o (lines_read x mid (answers_at m mid o))).accepted
+          → Next o w (step_ended o (lines_read x mid (answers_at m mid o)))
+      by_actor None mid x one last = one
+      by_actor (Some i) mid x one last =
+          let sent = answers-send m mid i x (next_number mid) (mid.held i) mid.messages in
+          let answered = subst IsAnswered (ap (λ (u : Facts Op). u.accepted) sent.1) last in
+          next-more R (Some i) w mid _ one (λ k.
+          next-more R (Some i) mid _ _ (answers-next mid i x answered (mid.held i)
+          (each-map _ _ (mid.held i) (λ c f. f.0) (k.held i)) mid.messages k)
+          (ended-next i (lines_read x mid (answers m mid (next_number mid) i (mid.held i)))))
