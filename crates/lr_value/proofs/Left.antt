@@ -20,7 +20,7 @@ module _ {A : Type 0} where
   all-but P (x ∷ xs) zero all = all.1
   all-but P (x ∷ xs) (suc at) all = (all.0, all-but P xs at all.1)
 
-  ascends-but : (before : A → A → Bool) (xs : List A) (at : ℕ) → Ascends before xs → Ascends before (remove xs at)
+  pub ascends-but : (before : A → A → Bool) (xs : List A) (at : ℕ) → Ascends before xs → Ascends before (remove xs at)
   ascends-but before [] zero up = tt
   ascends-but before [] (suc at) up = tt
   ascends-but before (x ∷ xs) zero up = up.1
@@ -40,7 +40,7 @@ module _ {A : Type 0} where
       front rest (suc k) = rest k
 
   -- what is among the elements is the one that is removed, or is among the others
-  among-but : (x : A) (xs : List A) (at : ℕ) (taken : A) → slice_get xs at ≡ Some taken → IsAmong x xs
+  pub among-but : (x : A) (xs : List A) (at : ℕ) (taken : A) → slice_get xs at ≡ Some taken → IsAmong x xs
       → (x ≡ taken) ⊎ IsAmong x (remove xs at)
   among-but x [] at taken is among = inr (absurd among)
   among-but x (y ∷ xs) zero taken is (inl same) = let e : y ≡ taken = cc in inl (same ∙ e)

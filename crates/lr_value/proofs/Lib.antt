@@ -2,8 +2,11 @@ mod Ended
 mod Executed
 mod Facts
 mod Gathered
+mod Held
+mod Lacking
 mod Left
 mod Numbered
+mod Placed
 mod Ready
 mod Settled
 mod Tables

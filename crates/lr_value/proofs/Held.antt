@@ -1,0 +1,230 @@
+-- What a table of waiting updates holds.
+use Rattle.std.proofs.Common.{◌≡◌, ◌≢◌, ◌<◌, ◌≤◌, ◌⊎◌, ◌↔◌, inl, inr, ℕ, suc, Bool, true, false, List, [], ◌∷◌, length, refl, sym, ◌∙◌}
+use Rattle.std.proofs.Common.{Some, None, arith, subst, ap}
+use Rattle.std.specs.Prelude.{insert, not, remove, slice_get, Result, Ok, Err, OnOk}
+use Rattle.std.specs.Borrow.{Bor}
+use Rattle.std.proofs.lemmas.List.Edits.{length-insert}
+use Rattle.lr_base.specs.Logged.{Fits}
+use Rattle.lr_base.specs.Orders.{IsAmong}
+use Rattle.lr_base.specs.Places.{AreInOrder}
+use Rattle.lr_base.specs.Rules.{is_before}
+use Rattle.lr_base.specs.Stamps.{Stamp, part, stamp_le}
+use Rattle.lr_base.specs.declared.messages.LogUpdate.{LogUpdate}
+use Rattle.lr_base.specs.declared.names.Spot.{Spot}
+use Rattle.lr_value.specs.declared.waiting.Blocked.{Blocked}
+use Rattle.lr_value.specs.Table.{AreByNeed, Has, IsHeld, IsNewTo, IsPut, IsTable, IsTableBut, IsTableBy, Lacks, StandsAt}
+use Rattle.lr_value.specs.Table.{is_met}
+use Rattle.lr_value.proofs.Placed.{among-get, among-inserted, inserted-among, lacks-there, removed-among}
+use Rattle.lr_value.proofs.Left.{among-but, ascends-but}
+
+-- what follows where a call met two promises
+pub on-ok : {X E : Type 0} (r : Result X E) (P Q R : Type 0) → (P → Q → R) → OnOk r P → OnOk r Q → OnOk r R
+on-ok (Ok x) P Q R follows first second = follows first second
+on-ok (Err e) P Q R follows first second = tt
+
+module _ {A B : Type 0} (what : A → B) where
+  pub has-inserted : (xs : List A) (at : ℕ) (y : A) (v : B) → (v ≡ what y) ⊎ Has what v xs → Has what v (insert xs at y)
+  has-inserted xs at y v (inl same) = (y, among-inserted xs at y y (inl refl), sym same)
+  has-inserted xs at y v (inr has) = (has.0, among-inserted xs at y has.0 (inr has.1), has.2)
+
+  pub inserted-has : (xs : List A) (at : ℕ) (y : A) (v : B) → Has what v (insert xs at y) → (v ≡ what y) ⊎ Has what v xs
+  inserted-has xs at y v has = out (inserted-among xs at y has.0 has.1)
+    where
+      out : (has.0 ≡ y) ⊎ IsAmong has.0 xs → (v ≡ what y) ⊎ Has what v xs
+      out (inl same) = inl (sym has.2 ∙ ap what same)
+      out (inr among) = inr (has.0, among, has.2)
+
+module _ {Op : Type 0} where
+  -- an update that was put in
+  pub put-inserted : (old : List (Bor (LogUpdate Op))) (at : ℕ) (y : Bor (LogUpdate Op)) → at ≤ length old
+      → IsPut y.now old (insert old at y)
+  put-inserted old at y within = record {
+    among = has-inserted (λ r. r.now) old at y;
+    from = inserted-has (λ r. r.now) old at y;
+    count = omega (arith, length-insert old at y within);
+  }
+
+  -- one that was there
+  pub put-there : (old : List (Bor (LogUpdate Op))) (u : LogUpdate Op) (x : Bor (LogUpdate Op)) → IsAmong x old
+      → x.now ≡ u → IsPut u old old
+  put-there old u x among is = record {
+    among = λ v either. out v either;
+    from = λ v has. inr has;
+    count = omega arith;
+  }
+    where
+      out : (v : LogUpdate Op) → (v ≡ u) ⊎ Has (λ r. r.now) v old → Has (λ r. r.now) v old
+      out v (inl same) = (x, among, is ∙ sym same)
+      out v (inr has) = has
+
+  -- one more is held where it was put among the ready ones
+  pub held-put : (u : LogUpdate Op) (ready more : List (Bor (LogUpdate Op))) (blocked : List (Blocked Op))
+      → IsPut u ready more → (v : LogUpdate Op)
+      → (IsHeld v more blocked → (v ≡ u) ⊎ IsHeld v ready blocked) × ((v ≡ u) ⊎ IsHeld v ready blocked → IsHeld v more blocked)
+  held-put u ready more blocked put v = (
+    λ held. from held,
+    λ either. into either,
+  )
+    where
+      from : IsHeld v more blocked → (v ≡ u) ⊎ IsHeld v ready blocked
+      from (inr needs) = inr (inr needs)
+      from (inl has) = out (put.from v has)
+        where
+          out : (v ≡ u) ⊎ Has (λ r. r.now) v ready → (v ≡ u) ⊎ IsHeld v ready blocked
+          out (inl same) = inl same
+          out (inr other) = inr (inl other)
+
+      into : (v ≡ u) ⊎ IsHeld v ready blocked → IsHeld v more blocked
+      into (inl same) = inl (put.among v (inl same))
+      into (inr (inl has)) = inl (put.among v (inr has))
+      into (inr (inr needs)) = inr needs
+
+  -- and where it was put among the others
+  pub held-block : (needs : Spot) (y : Bor (LogUpdate Op)) (ready : List (Bor (LogUpdate Op)))
+      (blocked : List (Blocked Op)) (at : ℕ) (v : LogUpdate Op)
+      → (IsHeld v ready (insert blocked at (record { needs = needs; update = y })) → (v ≡ y.now) ⊎ IsHeld v ready blocked)
+      × ((v ≡ y.now) ⊎ IsHeld v ready blocked → IsHeld v ready (insert blocked at (record { needs = needs; update = y })))
+  held-block needs y ready blocked at v = (λ held. from held, λ either. into either)
+    where
+      from : IsHeld v ready (insert blocked at (record { needs = needs; update = y }))
+          → (v ≡ y.now) ⊎ IsHeld v ready blocked
+      from (inl has) = inr (inl has)
+      from (inr needs') = out (inserted-has (λ b. b.update.now) blocked at _ v needs')
+        where
+          out : (v ≡ y.now) ⊎ Has (λ b. b.update.now) v blocked → (v ≡ y.now) ⊎ IsHeld v ready blocked
+          out (inl same) = inl same
+          out (inr other) = inr (inr other)
+
+      into : (v ≡ y.now) ⊎ IsHeld v ready blocked → IsHeld v ready (insert blocked at (record { needs = needs; update = y }))
+      into (inl same) = inr (has-inserted (λ b. b.update.now) blocked at _ v (inl same))
+      into (inr (inl has)) = inl has
+      into (inr (inr other)) = inr (has-inserted (λ b. b.update.now) blocked at _ v (inr other))
+
+  module _ (Lacking : Spot → Type 0) (val_ts : Stamp) (u : LogUpdate Op) (ready more : List (Bor (LogUpdate Op)))
+      (blocked further : List (Blocked Op)) (table : IsTableBy Lacking val_ts ready blocked)
+      (new : IsNewTo val_ts u ready blocked) where
+    -- with one more of those that may come, no two have one spot
+    one-more : ((v : LogUpdate Op) → IsHeld v more further → (v ≡ u) ⊎ IsHeld v ready blocked) → (v w : LogUpdate Op)
+        → IsHeld v more further → IsHeld w more further → v.spot ≡ w.spot → v ≡ w
+    one-more from v w first second same = out (from v first) (from w second)
+      where
+        out : (v ≡ u) ⊎ IsHeld v ready blocked → (w ≡ u) ⊎ IsHeld w ready blocked → v ≡ w
+        out (inl a) (inl b) = a ∙ sym b
+        out (inl a) (inr b) = a ∙ sym (new.one w b (sym same ∙ ap (λ (x : LogUpdate Op). x.spot) a))
+        out (inr a) (inl b) = new.one v a (same ∙ ap (λ (x : LogUpdate Op). x.spot) b) ∙ sym b
+        out (inr a) (inr b) = table.one v w a b same
+
+    fit-more : ((v : LogUpdate Op) → IsHeld v more further → (v ≡ u) ⊎ IsHeld v ready blocked) → (v : LogUpdate Op)
+        → IsHeld v more further → Fits (length val_ts) v
+    fit-more from v held = out (from v held)
+      where
+        out : (v ≡ u) ⊎ IsHeld v ready blocked → Fits (length val_ts) v
+        out (inl same) = subst (λ (x : LogUpdate Op). Fits (length val_ts) x) (sym same) new.fits
+        out (inr other) = table.fit v other
+
+  held-before : (ready : List (Bor (LogUpdate Op))) (blocked : List (Blocked Op)) (at : ℕ) (v : LogUpdate Op)
+      → IsHeld v ready (remove blocked at) → IsHeld v ready blocked
+  held-before ready blocked at v (inl has) = inl has
+  held-before ready blocked at v (inr has) = inr (has.0, removed-among blocked at has.0 has.1, has.2)
+
+  -- where one was taken out and put in again, the same are held
+  pub held-taken : (ready : List (Bor (LogUpdate Op))) (blocked : List (Blocked Op)) (at : ℕ) (b : Blocked Op)
+      → slice_get blocked at ≡ Some b → (more first : List (Bor (LogUpdate Op))) (further own : List (Blocked Op))
+      (v : LogUpdate Op) → (IsHeld v more further ↔ ((v ≡ b.update.now) ⊎ IsHeld v ready (remove blocked at)))
+      → (IsHeld v ready blocked ↔ IsHeld v first own) → IsHeld v more further ↔ IsHeld v first own
+  held-taken ready blocked at b is more first further own v again before =
+      (λ held. before.0 (into (again.0 held)), λ held. again.1 (from (before.1 held)))
+    where
+      into : (v ≡ b.update.now) ⊎ IsHeld v ready (remove blocked at) → IsHeld v ready blocked
+      into (inl same) = inr (b, among-get blocked at b is, sym same)
+      into (inr held) = held-before ready blocked at v held
+
+      from : IsHeld v ready blocked → (v ≡ b.update.now) ⊎ IsHeld v ready (remove blocked at)
+      from (inl has) = inr (inl has)
+      from (inr has) = out (among-but has.0 blocked at b is has.1)
+        where
+          out : (has.0 ≡ b) ⊎ IsAmong has.0 (remove blocked at)
+              → (v ≡ b.update.now) ⊎ IsHeld v ready (remove blocked at)
+          out (inl same) = inl (sym has.2 ∙ ap (λ (x : Blocked Op). x.update.now) same)
+          out (inr among) = inr (inr (has.0, among, has.2))
+
+  module _ (Lacking : Spot → Type 0) (val_ts : Stamp) (ready : List (Bor (LogUpdate Op))) (blocked : List (Blocked Op))
+      (table : IsTableBy Lacking val_ts ready blocked) where
+    -- a table with one more ready update
+    pub table-put : (u : LogUpdate Op) (more : List (Bor (LogUpdate Op))) → IsNewTo val_ts u ready blocked
+        → stamp_le u.prev val_ts ≡ true → IsPut u ready more → AreInOrder (λ r. r.now.spot) more
+        → IsTableBy Lacking val_ts more blocked
+    table-put u more new applied put order =
+        let from = λ (v : LogUpdate Op). (held-put u ready more blocked put v).0 in
+        record {
+          in_order = order;
+          causes = λ r among. out r (put.from r.now (r, among, refl));
+          by_need = table.by_need;
+          filed = table.filed;
+          one = one-more Lacking val_ts u ready more blocked blocked table new from;
+          fit = fit-more Lacking val_ts u ready more blocked blocked table new from;
+        }
+      where
+        out : (r : Bor (LogUpdate Op)) → (r.now ≡ u) ⊎ Has (λ x. x.now) r.now ready → stamp_le r.now.prev val_ts ≡ true
+        out r (inl same) = rw same applied
+        out r (inr has) = rw (← has.2) (table.causes has.0 has.1)
+
+    -- and with one more that needs something
+    pub table-block : (needs : Spot) (y : Bor (LogUpdate Op)) (at : ℕ) → IsNewTo val_ts y.now ready blocked
+        → Lacking needs → StandsAt val_ts y.now.prev needs
+        → AreByNeed (insert blocked at (record { needs = needs; update = y }))
+        → IsTableBy Lacking val_ts ready (insert blocked at (record { needs = needs; update = y }))
+    table-block needs y at new lacks stands order =
+        let from = λ (v : LogUpdate Op). (held-block needs y ready blocked at v).0 in
+        record {
+          in_order = table.in_order;
+          causes = table.causes;
+          by_need = order;
+          filed = λ b among. out b (inserted-among blocked at _ b among);
+          one = one-more Lacking val_ts y.now ready ready blocked _ table new from;
+          fit = fit-more Lacking val_ts y.now ready ready blocked _ table new from;
+        }
+      where
+        out : (b : Blocked Op) → (b ≡ record { needs = needs; update = y }) ⊎ IsAmong b blocked
+            → Lacking b.needs × StandsAt val_ts b.update.now.prev b.needs
+        out b (inl same) =
+            subst (λ (x : Blocked Op). Lacking x.needs × StandsAt val_ts x.update.now.prev x.needs) (sym same) (lacks, stands)
+        out b (inr among) = table.filed b among
+
+    -- and with one fewer
+    pub table-removed : (at : ℕ) → IsTableBy Lacking val_ts ready (remove blocked at)
+    table-removed at =
+        let into = λ (v : LogUpdate Op) (held : IsHeld v ready (remove blocked at)). held-before ready blocked at v held in
+        record {
+          in_order = table.in_order;
+          causes = table.causes;
+          by_need = ascends-but (λ a b. not (is_before b.needs a.needs)) blocked at table.by_need;
+          filed = λ b among. table.filed b (removed-among blocked at b among);
+          one = λ u v first second same. table.one u v (into u first) (into v second) same;
+          fit = λ u held. table.fit u (into u held);
+        }
+
+    -- the one that is taken out may come again
+    pub removed-new : (at : ℕ) (b : Blocked Op) → slice_get blocked at ≡ Some b
+        → IsNewTo val_ts b.update.now ready (remove blocked at)
+    removed-new at b is =
+        let own : IsHeld b.update.now ready blocked = inr (b, among-get blocked at b is, refl) in
+        record {
+          one = λ v held same. table.one v b.update.now (held-before ready blocked at v held) own same;
+          fits = table.fit b.update.now own;
+        }
+
+  -- where none is met at the place that was raised, each that needs something lacks it
+  pub table-whole : (raised : ℕ) (val_ts : Stamp) (ready : List (Bor (LogUpdate Op))) (blocked : List (Blocked Op))
+      → IsTableBut raised val_ts ready blocked
+      → ((b : Blocked Op) → IsAmong b blocked → is_met raised (part val_ts raised) b.needs ≡ false)
+      → IsTable val_ts ready blocked
+  table-whole raised val_ts ready blocked table unmet = record {
+    in_order = table.in_order;
+    causes = table.causes;
+    by_need = table.by_need;
+    filed = λ b among.
+        let was = table.filed b among in (lacks-there val_ts raised b.needs was.0 (unmet b among), was.1);
+    one = table.one;
+    fit = table.fit;
+  }

@@ -1,0 +1,61 @@
+use Rattle.std.proofs.Common.{◌≡◌, ◌<◌, ◌≤◌, ◌+◌, suc, ap, length, refl, sym, ◌∙◌, Some, arith}
+use Rattle.std.proofs.lemmas.Option.{slice_get_read}
+use Rattle.std.proofs.lemmas.List.Edits.{length-remove}
+use Rattle.std.specs.Prelude.{filter, slice_get}
+use Rattle.lr_base.specs.Stamps.{part}
+use Rattle.lr_value.specs.Table.{Lacks, count_met, is_met}
+use Rattle.lr_value.proofs.Held.{held-taken, removed-new, table-removed, table-whole}
+use Rattle.lr_value.proofs.Placed.{count-removed}
+use Rattle.lr_value.proofs.waiting.Table.wake.Goals as goal
+
+pub file-requires-clause-table : goal.file-requires-clause-table
+file-requires-clause-table g c = (
+  c.args.place,
+  rw c.remove-met.ensures.items (table-removed _ c.args.val_ts.now c.loop-at.self.ready.items
+      c.loop-at.self.blocked.items c.loop-at.invariant.table c.in-Some.at),
+)
+
+pub file-requires-clause-one : goal.file-requires-clause-one
+file-requires-clause-one g c =
+    let blocked = c.loop-at.self.blocked.items in
+    let within : c.in-Some.at < length blocked = rw (← c.as_slice.ensures.value) c.in-Some.ensures.within in
+    let here = slice_get_read blocked (length blocked) c.in-Some.at c.remove-met.result refl within
+    c.remove-met.ensures.value in
+    rw c.remove-met.ensures.items
+    (removed-new _ c.args.val_ts.now c.loop-at.self.ready.items blocked c.loop-at.invariant.table c.in-Some.at
+    c.remove-met.result here)
+
+pub loop-at-smaller : goal.loop-at-smaller
+loop-at-smaller g c =
+    let blocked = c.loop-at.self.blocked.items in
+    let number = part c.args.val_ts.now c.args.place in
+    let within : c.in-Some.at < length blocked = rw (← c.as_slice.ensures.value) c.in-Some.ensures.within in
+    let here = slice_get_read blocked (length blocked) c.in-Some.at c.remove-met.result refl within
+    c.remove-met.ensures.value in
+    let met = rw (c.as_slice.ensures.value, c.part.ensures) at c.in-Some.ensures.met in
+    let fewer = count-removed (λ b. is_met c.args.place number b.needs) blocked c.in-Some.at c.remove-met.result here
+    (met c.remove-met.result here) in
+    let most = rw c.remove-met.ensures.items at (c.in_ok-file.ensures.met c.args.place) in
+    omega (arith, fewer, most)
+
+pub loop-at-preserved : goal.loop-at-preserved
+loop-at-preserved g c =
+    let blocked = c.loop-at.self.blocked.items in
+    let within : c.in-Some.at < length blocked = rw (← c.as_slice.ensures.value) c.in-Some.ensures.within in
+    let here = slice_get_read blocked (length blocked) c.in-Some.at c.remove-met.result refl within
+    c.remove-met.ensures.value in
+    let fewer = length-remove blocked c.in-Some.at within in
+    let most = rw c.remove-met.ensures.items at c.in_ok-file.ensures.count in
+    record {
+      table = c.in_ok-file.ensures.table c.args.place (rw c.remove-met.ensures.items
+          (table-removed _ c.args.val_ts.now c.loop-at.self.ready.items blocked c.loop-at.invariant.table c.in-Some.at));
+      held = λ u. held-taken c.loop-at.self.ready.items blocked c.in-Some.at c.remove-met.result here _ _ _ _ u
+          (rw c.remove-met.ensures.items at c.in_ok-file.ensures.held u) (c.loop-at.invariant.held u);
+      count = omega (arith, fewer, most, c.loop-at.invariant.count);
+    }
+
+pub returns-clause-table : goal.returns-clause-table
+returns-clause-table g c =
+    let none = rw (c.as_slice.ensures.value, c.part.ensures) at (c.in_default.ensures.none refl) in
+    table-whole c.args.place c.args.val_ts.now c.loop-at.self.ready.items c.loop-at.self.blocked.items
+    c.loop-at.invariant.table none
