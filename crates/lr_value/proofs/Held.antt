@@ -100,6 +100,15 @@ module _ {Op : Type 0} where
       into (inr (inl has)) = inl has
       into (inr (inr other)) = inr (has-inserted (λ b. b.update.now) blocked at _ v (inr other))
 
+  -- what goes over from the others to the ready ones is held as before
+  pub held-over : (b : Blocked Op) (ready more first : List (Bor (LogUpdate Op))) (blocked : List (Blocked Op)) (at : ℕ)
+      (own : List (Blocked Op)) → IsPut b.update.now ready more → (v : LogUpdate Op)
+      → (IsHeld v ready (insert blocked at b) ↔ IsHeld v first own) → IsHeld v more blocked ↔ IsHeld v first own
+  held-over b ready more first blocked at own put v before =
+      let moved = held-put b.update.now ready more blocked put v in
+      let stood = held-block b.needs b.update ready blocked at v in
+      (λ held. before.0 (stood.1 (moved.0 held)), λ held. moved.1 (stood.0 (before.1 held)))
+
   module _ (Lacking : Spot → Type 0) (val_ts : Stamp) (u : LogUpdate Op) (ready more : List (Bor (LogUpdate Op)))
       (blocked further : List (Blocked Op)) (table : IsTableBy Lacking val_ts ready blocked)
       (new : IsNewTo val_ts u ready blocked) where
@@ -148,6 +157,44 @@ module _ {Op : Type 0} where
           out (inl same) = inl (sym has.2 ∙ ap (λ (x : Blocked Op). x.update.now) same)
           out (inr among) = inr (inr (has.0, among, has.2))
 
+  -- what is filed with one more that stands where it lacks something
+  pub filed-inserted : (Lacking : Spot → Type 0) (val_ts : Stamp) (needs : Spot) (y : Bor (LogUpdate Op))
+      (blocked : List (Blocked Op)) (at : ℕ) → Lacking needs → StandsAt val_ts y.now.prev needs
+      → ((b : Blocked Op) → IsAmong b blocked → Lacking b.needs × StandsAt val_ts b.update.now.prev b.needs)
+      → (b : Blocked Op) → IsAmong b (insert blocked at (record { needs = needs; update = y }))
+      → Lacking b.needs × StandsAt val_ts b.update.now.prev b.needs
+  filed-inserted Lacking val_ts needs y blocked at lacks stands filed b among =
+      out (inserted-among blocked at _ b among)
+    where
+      out : (b ≡ record { needs = needs; update = y }) ⊎ IsAmong b blocked
+          → Lacking b.needs × StandsAt val_ts b.update.now.prev b.needs
+      out (inl same) =
+          subst (λ (x : Blocked Op). Lacking x.needs × StandsAt val_ts x.update.now.prev x.needs) (sym same)
+          (lacks, stands)
+      out (inr other) = filed b other
+
+  -- what goes over from the ready ones to the others is held as before
+  pub held-shelved : (needs : Spot) (y : Bor (LogUpdate Op)) (ready : List (Bor (LogUpdate Op)))
+      (blocked : List (Blocked Op)) (from at : ℕ) → slice_get ready from ≡ Some y → (v : LogUpdate Op)
+      → IsHeld v (remove ready from) (insert blocked at (record { needs = needs; update = y })) ↔ IsHeld v ready blocked
+  held-shelved needs y ready blocked from at is v =
+      let stood = held-block needs y (remove ready from) blocked at v in
+      (λ held. out (stood.0 held), λ held. stood.1 (into held))
+    where
+      out : (v ≡ y.now) ⊎ IsHeld v (remove ready from) blocked → IsHeld v ready blocked
+      out (inl same) = inl (y, among-get ready from y is, sym same)
+      out (inr (inl has)) = inl (has.0, removed-among ready from has.0 has.1, has.2)
+      out (inr (inr needs')) = inr needs'
+
+      into : IsHeld v ready blocked → (v ≡ y.now) ⊎ IsHeld v (remove ready from) blocked
+      into (inr needs') = inr (inr needs')
+      into (inl has) = go (among-but has.0 ready from y is has.1)
+        where
+          go : (has.0 ≡ y) ⊎ IsAmong has.0 (remove ready from)
+              → (v ≡ y.now) ⊎ IsHeld v (remove ready from) blocked
+          go (inl same) = inl (sym has.2 ∙ ap (λ (r : Bor (LogUpdate Op)). r.now) same)
+          go (inr among) = inr (inl (has.0, among, has.2))
+
   module _ (Lacking : Spot → Type 0) (val_ts : Stamp) (ready : List (Bor (LogUpdate Op))) (blocked : List (Blocked Op))
       (table : IsTableBy Lacking val_ts ready blocked) where
     -- a table with one more ready update
@@ -180,16 +227,10 @@ module _ {Op : Type 0} where
           in_order = table.in_order;
           causes = table.causes;
           by_need = order;
-          filed = λ b among. out b (inserted-among blocked at _ b among);
+          filed = filed-inserted Lacking val_ts needs y blocked at lacks stands table.filed;
           one = one-more Lacking val_ts y.now ready ready blocked _ table new from;
           fit = fit-more Lacking val_ts y.now ready ready blocked _ table new from;
         }
-      where
-        out : (b : Blocked Op) → (b ≡ record { needs = needs; update = y }) ⊎ IsAmong b blocked
-            → Lacking b.needs × StandsAt val_ts b.update.now.prev b.needs
-        out b (inl same) =
-            subst (λ (x : Blocked Op). Lacking x.needs × StandsAt val_ts x.update.now.prev x.needs) (sym same) (lacks, stands)
-        out b (inr among) = table.filed b among
 
     -- and with one fewer
     pub table-removed : (at : ℕ) → IsTableBy Lacking val_ts ready (remove blocked at)

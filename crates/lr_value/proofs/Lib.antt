@@ -5,6 +5,7 @@ mod Gathered
 mod Held
 mod Lacking
 mod Left
+mod Members
 mod Numbered
 mod Placed
 mod Ready

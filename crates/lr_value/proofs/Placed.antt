@@ -13,7 +13,7 @@ use Rattle.lr_base.specs.declared.names.Spot.{Spot}
 use Rattle.lr_base.specs.Stamps.{Stamp, part}
 use Rattle.lr_value.specs.Table.{IsPlaceFor, Lacks, is_met}
 
-before-trans : (a b c : Spot) → is_before a b ≡ true → is_before b c ≡ true → is_before a c ≡ true
+pub before-trans : (a b c : Spot) → is_before a b ≡ true → is_before b c ≡ true → is_before a c ≡ true
 before-trans a b c first second = grind (arith, nat_tests)
 
 pub before-self : (a : Spot) → is_before a a ≡ false
@@ -140,6 +140,19 @@ module _ {A : Type 0} where
   each-inserted P [] (suc at) y own all = (own, tt)
   each-inserted P (z ∷ xs) zero y own all = (own, all)
   each-inserted P (z ∷ xs) (suc at) y own all = (all.0, each-inserted P xs at y own all.1)
+
+  pub take-removed : (P : A → Type 0) (xs : List A) (at : ℕ) → AllByRecursion P (take at xs)
+      → AllByRecursion P (take at (remove xs at))
+  take-removed P [] zero all = tt
+  take-removed P [] (suc at) all = tt
+  take-removed P (x ∷ xs) zero all = tt
+  take-removed P (x ∷ xs) (suc at) all = (all.0, take-removed P xs at all.1)
+
+  pub take-whole : (P : A → Type 0) (xs : List A) (at : ℕ) → length xs ≤ at → AllByRecursion P (take at xs)
+      → AllByRecursion P xs
+  take-whole P [] at most all = tt
+  take-whole P (x ∷ xs) zero most all = absurd (omega arith)
+  take-whole P (x ∷ xs) (suc at) most all = (all.0, take-whole P xs at (omega arith) all.1)
 
   -- ---- the place of a spot
 
