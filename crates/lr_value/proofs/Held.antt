@@ -1,7 +1,7 @@
 -- What a table of waiting updates holds.
-use Rattle.std.proofs.Common.{◌≡◌, ◌≢◌, ◌<◌, ◌≤◌, ◌⊎◌, ◌↔◌, inl, inr, ℕ, suc, Bool, true, false, List, [], ◌∷◌, length, refl, sym, ◌∙◌}
-use Rattle.std.proofs.Common.{Some, None, arith, subst, ap}
-use Rattle.std.specs.Prelude.{insert, not, remove, slice_get, Result, Ok, Err, OnOk}
+use Rattle.std.proofs.Common.{◌≡◌, ◌≤◌, ◌⊎◌, ◌↔◌, inl, inr, ℕ, true, false, List, length, refl, sym, ◌∙◌}
+use Rattle.std.proofs.Common.{Some, arith, subst, ap}
+use Rattle.std.specs.Prelude.{insert, not, remove, slice_get, Result, Ok, Err, IfOk, OnOk}
 use Rattle.std.specs.Borrow.{Bor}
 use Rattle.std.proofs.lemmas.List.Edits.{length-insert}
 use Rattle.lr_base.specs.Logged.{Fits}
@@ -12,10 +12,21 @@ use Rattle.lr_base.specs.Stamps.{Stamp, part, stamp_le}
 use Rattle.lr_base.specs.declared.messages.LogUpdate.{LogUpdate}
 use Rattle.lr_base.specs.declared.names.Spot.{Spot}
 use Rattle.lr_value.specs.declared.waiting.Blocked.{Blocked}
-use Rattle.lr_value.specs.Table.{AreByNeed, Has, IsHeld, IsNewTo, IsPut, IsTable, IsTableBut, IsTableBy, Lacks, StandsAt}
+use Rattle.lr_value.specs.Table.{AreByNeed, Has, IsHeld, IsNewTo, IsPut, IsTable, IsTableBut, IsTableBy, StandsAt}
 use Rattle.lr_value.specs.Table.{is_met}
 use Rattle.lr_value.proofs.Placed.{among-get, among-inserted, inserted-among, lacks-there, removed-among}
 use Rattle.lr_value.proofs.Left.{among-but, ascends-but}
+
+-- what holds whatever a call answers
+pub if-ok : {X E : Type 0} (r : Result X E) (P : X → Type 0) → ((x : X) → P x) → IfOk r P
+if-ok (Ok x) P holds = holds x
+if-ok (Err e) P holds = tt
+
+-- what follows of what a call answers, where it met two promises
+pub if-both : {X E : Type 0} (r : Result X E) (P Q R : X → Type 0) → ((x : X) → P x → Q x → R x) → IfOk r P → IfOk r Q
+    → IfOk r R
+if-both (Ok x) P Q R follows first second = follows x first second
+if-both (Err e) P Q R follows first second = tt
 
 -- what follows where a call met two promises
 pub on-ok : {X E : Type 0} (r : Result X E) (P Q R : Type 0) → (P → Q → R) → OnOk r P → OnOk r Q → OnOk r R

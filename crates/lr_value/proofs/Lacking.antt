@@ -1,6 +1,6 @@
 -- What causes lack of a stamp.
-use Rattle.std.proofs.Common.{◌≡◌, ◌≢◌, ◌<◌, ◌≤◌, ℕ, zero, suc, Bool, true, false, max, [], ◌∷◌, length, refl, sym, ◌∙◌, arith}
-use Rattle.std.proofs.Common.{ltb-true, ltb-false, true≢false}
+use Rattle.std.proofs.Common.{◌≡◌, ◌≢◌, ◌<◌, ◌≤◌, ℕ, zero, suc, Bool, true, false, [], ◌∷◌, length, refl, arith}
+use Rattle.std.proofs.Common.{ltb-true, ltb-false}
 use Rattle.std.specs.Prelude.{nat_lt}
 use Rattle.lr_base.specs.Stamps.{Stamp, part, join, set_part, stamp_le}
 use Rattle.lr_base.specs.StampLaws.{part-join, part-set_part_other, parts-stamp_le, stamp_le-parts}

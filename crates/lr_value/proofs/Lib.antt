@@ -11,3 +11,4 @@ mod Placed
 mod Ready
 mod Settled
 mod Tables
+mod Taking

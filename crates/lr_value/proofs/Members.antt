@@ -1,7 +1,6 @@
 -- Lists in the order of spots, and their members.
-use Rattle.std.proofs.Common.{◌≡◌, ◌⊎◌, ◌↔◌, inl, inr, ℕ, zero, suc, Bool, true, false, List, [], ◌∷◌, length, refl, sym, ap, ◌∙◌}
-use Rattle.std.proofs.Common.{Some, None, subst, true≢false, arith}
-use Rattle.std.specs.Prelude.{slice_get}
+use Rattle.std.proofs.Common.{◌≡◌, ◌↔◌, inl, inr, ℕ, suc, true, List, [], ◌∷◌, length, refl, sym, ap, ◌∙◌}
+use Rattle.std.proofs.Common.{subst, true≢false, arith}
 use Rattle.std.specs.List.{AllByRecursion}
 use Rattle.std.specs.Borrow.{Bor}
 use Rattle.lr_base.specs.Logged.{AllFit, Fits}
@@ -9,7 +8,6 @@ use Rattle.lr_base.specs.Orders.{IsAmong}
 use Rattle.lr_base.specs.Places.{AreInOrder}
 use Rattle.lr_base.specs.Rules.{is_before}
 use Rattle.lr_base.specs.declared.messages.LogUpdate.{LogUpdate}
-use Rattle.lr_base.specs.declared.names.Spot.{Spot}
 use Rattle.lr_value.specs.Table.{Has, IsHeld}
 use Rattle.lr_value.specs.declared.waiting.Blocked.{Blocked}
 use Rattle.lr_value.specs.Waiting.{behind}

@@ -1,6 +1,6 @@
 -- Where something goes in a list that is sorted by spots.
 use Rattle.std.proofs.Common.{◌≡◌, ◌≢◌, ◌<◌, ◌≤◌, ℕ, zero, suc, Bool, true, false, not, ◌⊎◌, inl, inr, List, [], ◌∷◌, length}
-use Rattle.std.proofs.Common.{◌+◌, get_or, take, drop, refl, sym, ap, ◌∙◌, Some, None, arith, cond, true≢false, eq-eqb, eqb-true, leb-false}
+use Rattle.std.proofs.Common.{get_or, take, drop, refl, sym, ap, ◌∙◌, Some, None, arith, cond, true≢false, eq-eqb, eqb-true, leb-false}
 use Rattle.std.specs.Prelude.{◌==◌, ◌&&◌, filter, insert, nat_le, remove, slice_get}
 use Rattle.std.proofs.lemmas.Bool.Decides.{nat_tests}
 use Rattle.std.proofs.lemmas.Bool.{lt-leb}

@@ -1,6 +1,6 @@
 -- Updates that wait, each under what it waits for.
 use Rattle.std.specs.Prelude.{◌≡◌, ◌≢◌, ◌<◌, ◌≤◌, ◌⊎◌, ◌==◌, ◌&&◌, ℕ, suc, Bool, true, false, not, nat_le, filter, length}
-use Rattle.std.specs.Prelude.{List, take, drop, insert}
+use Rattle.std.specs.Prelude.{List, take, drop}
 use Rattle.std.specs.List.{AllByRecursion}
 use Rattle.std.specs.Borrow.{Bor}
 use Rattle.lr_base.specs.Insertion.{Ascends}

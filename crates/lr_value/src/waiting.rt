@@ -105,7 +105,11 @@ fn first_met<O>(blocked: &[Blocked<O>], place: u8, number: u64) -> Option<usize>
 
 impl<'a, O: Drop> Table<'a, O> {
     /// The table of these updates.
-    pub(crate) fn of(alloc: Global, waiting: Vec<&'a LogUpdate<O>>, val_ts: &Stamp) -> Result<Self, NoMemory>
+    pub(crate) fn of(
+        alloc: Global,
+        waiting: Vec<&'a LogUpdate<O>>,
+        val_ts: &Stamp,
+    ) -> Result<Self, NoMemory>
         requires fit { AllFit (length val_ts.now) (behind waiting.items) }
         requires in_order { AreInOrder (λ u. u.spot) (behind waiting.items) }
         ensures table { IfOk result (λ made. IsTable val_ts.now made.ready.items made.blocked.items) }

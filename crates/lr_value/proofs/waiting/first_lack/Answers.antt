@@ -1,4 +1,4 @@
-use Rattle.std.proofs.Common.{length, arith}
+use Rattle.std.proofs.Common.{arith}
 use Rattle.lr_value.proofs.Lacking.{none-lacking}
 use Rattle.lr_value.proofs.waiting.first_lack.Goals as goal
 

@@ -1,4 +1,4 @@
-use Rattle.std.proofs.Common.{◌≡◌, ◌∙◌, sym, ap, length, arith, refl}
+use Rattle.std.proofs.Common.{◌∙◌, sym, length, arith, refl}
 use Rattle.std.proofs.lemmas.Option.{slice_get_read, slice_get_within}
 use Rattle.lr_value.proofs.Placed.{among-get, get-at, spots-differ, spots-same}
 use Rattle.lr_value.proofs.waiting.place_for.Goals as goal
@@ -18,11 +18,11 @@ returns-then-eq-clause-none g c none =
 pub returns-clause-new : goal.returns-clause-new
 returns-clause-new g c =
     elim c.else-at-ready.branch [
-      else-at-ready-via-then-at-ready+else-eq w ↦ λ r here.
-        let other = sym w.eq.ensures ∙ w.if-eq.false in
-        let is = get-at c.args.ready.now c.place_by_spot-at.result r w.index-ready-at.result here in
-        spots-differ r.now.spot c.args.spot (rw is at other)
-    | else-at-ready-via-else-at-ready w ↦ λ r here.
-        let within = slice_get_within c.args.ready.now c.place_by_spot-at.result r here in
-        absurd (omega arith)
+      | else-at-ready-via-then-at-ready+else-eq w ↦ λ r here.
+          let other = sym w.eq.ensures ∙ w.if-eq.false in
+          let is = get-at c.args.ready.now c.place_by_spot-at.result r w.index-ready-at.result here in
+          spots-differ r.now.spot c.args.spot (rw is at other)
+      | else-at-ready-via-else-at-ready w ↦ λ r here.
+          let within = slice_get_within c.args.ready.now c.place_by_spot-at.result r here in
+          absurd (omega arith)
     ]

@@ -1,4 +1,3 @@
-use Rattle.std.proofs.Common.{◌≡◌}
 use Rattle.lr_value.proofs.Placed.{by-need-put}
 use Rattle.lr_value.proofs.waiting.Table.block.Goals as goal
 

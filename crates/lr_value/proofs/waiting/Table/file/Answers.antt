@@ -1,10 +1,6 @@
-use Rattle.std.proofs.Common.{◌≡◌, ◌⊎◌, ◌≢◌, inl, inr, ap, refl, rules, arith}
-use Rattle.std.specs.Borrow.{Bor}
-use Rattle.std.specs.Prelude.{List}
+use Rattle.std.proofs.Common.{◌≢◌, inl, refl, arith}
 use Rattle.lr_base.specs.Stamps.{part}
-use Rattle.lr_base.specs.declared.messages.LogUpdate.{LogUpdate}
-use Rattle.lr_value.specs.declared.waiting.Blocked.{Blocked}
-use Rattle.lr_value.specs.Table.{IsHeld, IsTableBut, Lacks, is_met}
+use Rattle.lr_value.specs.Table.{Lacks, is_met}
 use Rattle.lr_value.proofs.Held.{on-ok, table-put, table-block, held-put, held-block}
 use Rattle.lr_value.proofs.Placed.{count-inserted, met-lacking}
 use Rattle.lr_value.proofs.waiting.Table.file.Goals as goal

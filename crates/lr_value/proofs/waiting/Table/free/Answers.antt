@@ -1,7 +1,4 @@
-use Rattle.std.proofs.Common.{◌≡◌, ◌≤◌, length, refl, subst, ap}
-use Rattle.std.specs.Prelude.{insert}
-use Rattle.lr_base.specs.Places.{AreInOrder}
-use Rattle.lr_value.specs.Table.{IsPut}
+use Rattle.std.proofs.Common.{refl}
 use Rattle.lr_value.proofs.Held.{put-inserted, put-there}
 use Rattle.lr_value.proofs.Placed.{in-order-put}
 use Rattle.lr_value.proofs.waiting.Table.free.Goals as goal

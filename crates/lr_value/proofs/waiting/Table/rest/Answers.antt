@@ -1,5 +1,4 @@
-use Rattle.std.proofs.Common.{◌≡◌, ◌∙◌, ◌++◌, ◌∷◌, [], inl, inr, length, refl, sym, arith}
-use Rattle.std.specs.Prelude.{insert}
+use Rattle.std.proofs.Common.{◌≡◌, ◌∙◌, inl, length, refl, sym, arith}
 use Rattle.std.proofs.lemmas.List.Edits.{insert_end}
 use Rattle.lr_value.proofs.Held.{held-block, held-over}
 use Rattle.lr_value.proofs.Members.{held-alone, order-behind}

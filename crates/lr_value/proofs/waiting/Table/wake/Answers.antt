@@ -1,9 +1,8 @@
-use Rattle.std.proofs.Common.{◌≡◌, ◌<◌, ◌≤◌, ◌+◌, suc, ap, length, refl, sym, ◌∙◌, Some, arith}
+use Rattle.std.proofs.Common.{◌<◌, length, refl, arith}
 use Rattle.std.proofs.lemmas.Option.{slice_get_read}
 use Rattle.std.proofs.lemmas.List.Edits.{length-remove}
-use Rattle.std.specs.Prelude.{filter, slice_get}
 use Rattle.lr_base.specs.Stamps.{part}
-use Rattle.lr_value.specs.Table.{Lacks, count_met, is_met}
+use Rattle.lr_value.specs.Table.{is_met}
 use Rattle.lr_value.proofs.Held.{held-taken, removed-new, table-removed, table-whole}
 use Rattle.lr_value.proofs.Placed.{count-removed}
 use Rattle.lr_value.proofs.waiting.Table.wake.Goals as goal
