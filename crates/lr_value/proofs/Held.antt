@@ -1,10 +1,9 @@
 -- What a table of waiting updates holds.
 use Rattle.std.proofs.Common.{◌≡◌, ◌≤◌, ◌⊎◌, ◌↔◌, inl, inr, ℕ, true, false, List, length, refl, sym, ◌∙◌}
 use Rattle.std.proofs.Common.{Some, arith, subst, ap}
-use Rattle.std.specs.Prelude.{insert, not, remove, slice_get, Result, Ok, Err, IfOk, OnOk}
+use Rattle.std.specs.Prelude.{insert, not, remove, slice_get, Result, Ok, Err, IfOk}
 use Rattle.std.specs.Borrow.{Bor}
 use Rattle.std.proofs.lemmas.List.Edits.{length-insert}
-use Rattle.lr_base.specs.Logged.{Fits}
 use Rattle.lr_base.specs.Orders.{IsAmong}
 use Rattle.lr_base.specs.Places.{AreInOrder}
 use Rattle.lr_base.specs.Rules.{is_before}
@@ -12,7 +11,7 @@ use Rattle.lr_base.specs.Stamps.{Stamp, part, stamp_le}
 use Rattle.lr_base.specs.declared.messages.LogUpdate.{LogUpdate}
 use Rattle.lr_base.specs.declared.names.Spot.{Spot}
 use Rattle.lr_value.specs.declared.waiting.Blocked.{Blocked}
-use Rattle.lr_value.specs.Table.{AreByNeed, Has, IsHeld, IsNewTo, IsPut, IsTable, IsTableBut, IsTableBy, StandsAt}
+use Rattle.lr_value.specs.Table.{AreByNeed, Has, IsHeld, IsPut, IsTable, IsTableBut, IsTableBy, StandsAt}
 use Rattle.lr_value.specs.Table.{is_met}
 use Rattle.lr_value.proofs.Placed.{among-get, among-inserted, inserted-among, lacks-there, removed-among}
 use Rattle.lr_value.proofs.Left.{among-but, ascends-but}
@@ -27,11 +26,6 @@ pub if-both : {X E : Type 0} (r : Result X E) (P Q R : X → Type 0) → ((x : X
     → IfOk r R
 if-both (Ok x) P Q R follows first second = follows x first second
 if-both (Err e) P Q R follows first second = tt
-
--- what follows where a call met two promises
-pub on-ok : {X E : Type 0} (r : Result X E) (P Q R : Type 0) → (P → Q → R) → OnOk r P → OnOk r Q → OnOk r R
-on-ok (Ok x) P Q R follows first second = follows first second
-on-ok (Err e) P Q R follows first second = tt
 
 module _ {A B : Type 0} (what : A → B) where
   pub has-inserted : (xs : List A) (at : ℕ) (y : A) (v : B) → (v ≡ what y) ⊎ Has what v xs → Has what v (insert xs at y)
@@ -71,7 +65,7 @@ module _ {Op : Type 0} where
   -- one more is held where it was put among the ready ones
   pub held-put : (u : LogUpdate Op) (ready more : List (Bor (LogUpdate Op))) (blocked : List (Blocked Op))
       → IsPut u ready more → (v : LogUpdate Op)
-      → (IsHeld v more blocked → (v ≡ u) ⊎ IsHeld v ready blocked) × ((v ≡ u) ⊎ IsHeld v ready blocked → IsHeld v more blocked)
+      → IsHeld v more blocked ↔ ((v ≡ u) ⊎ IsHeld v ready blocked)
   held-put u ready more blocked put v = (
     λ held. from held,
     λ either. into either,
@@ -93,8 +87,8 @@ module _ {Op : Type 0} where
   -- and where it was put among the others
   pub held-block : (needs : Spot) (y : Bor (LogUpdate Op)) (ready : List (Bor (LogUpdate Op)))
       (blocked : List (Blocked Op)) (at : ℕ) (v : LogUpdate Op)
-      → (IsHeld v ready (insert blocked at (record { needs = needs; update = y })) → (v ≡ y.now) ⊎ IsHeld v ready blocked)
-      × ((v ≡ y.now) ⊎ IsHeld v ready blocked → IsHeld v ready (insert blocked at (record { needs = needs; update = y })))
+      → IsHeld v ready (insert blocked at (record { needs = needs; update = y }))
+      ↔ ((v ≡ y.now) ⊎ IsHeld v ready blocked)
   held-block needs y ready blocked at v = (λ held. from held, λ either. into either)
     where
       from : IsHeld v ready (insert blocked at (record { needs = needs; update = y }))
@@ -106,7 +100,8 @@ module _ {Op : Type 0} where
           out (inl same) = inl same
           out (inr other) = inr (inr other)
 
-      into : (v ≡ y.now) ⊎ IsHeld v ready blocked → IsHeld v ready (insert blocked at (record { needs = needs; update = y }))
+      into : (v ≡ y.now) ⊎ IsHeld v ready blocked
+          → IsHeld v ready (insert blocked at (record { needs = needs; update = y }))
       into (inl same) = inr (has-inserted (λ b. b.update.now) blocked at _ v (inl same))
       into (inr (inl has)) = inl has
       into (inr (inr other)) = inr (has-inserted (λ b. b.update.now) blocked at _ v (inr other))
@@ -119,28 +114,6 @@ module _ {Op : Type 0} where
       let moved = held-put b.update.now ready more blocked put v in
       let stood = held-block b.needs b.update ready blocked at v in
       (λ held. before.0 (stood.1 (moved.0 held)), λ held. moved.1 (stood.0 (before.1 held)))
-
-  module _ (Lacking : Spot → Type 0) (val_ts : Stamp) (u : LogUpdate Op) (ready more : List (Bor (LogUpdate Op)))
-      (blocked further : List (Blocked Op)) (table : IsTableBy Lacking val_ts ready blocked)
-      (new : IsNewTo val_ts u ready blocked) where
-    -- with one more of those that may come, no two have one spot
-    one-more : ((v : LogUpdate Op) → IsHeld v more further → (v ≡ u) ⊎ IsHeld v ready blocked) → (v w : LogUpdate Op)
-        → IsHeld v more further → IsHeld w more further → v.spot ≡ w.spot → v ≡ w
-    one-more from v w first second same = out (from v first) (from w second)
-      where
-        out : (v ≡ u) ⊎ IsHeld v ready blocked → (w ≡ u) ⊎ IsHeld w ready blocked → v ≡ w
-        out (inl a) (inl b) = a ∙ sym b
-        out (inl a) (inr b) = a ∙ sym (new.one w b (sym same ∙ ap (λ (x : LogUpdate Op). x.spot) a))
-        out (inr a) (inl b) = new.one v a (same ∙ ap (λ (x : LogUpdate Op). x.spot) b) ∙ sym b
-        out (inr a) (inr b) = table.one v w a b same
-
-    fit-more : ((v : LogUpdate Op) → IsHeld v more further → (v ≡ u) ⊎ IsHeld v ready blocked) → (v : LogUpdate Op)
-        → IsHeld v more further → Fits (length val_ts) v
-    fit-more from v held = out (from v held)
-      where
-        out : (v ≡ u) ⊎ IsHeld v ready blocked → Fits (length val_ts) v
-        out (inl same) = subst (λ (x : LogUpdate Op). Fits (length val_ts) x) (sym same) new.fits
-        out (inr other) = table.fit v other
 
   held-before : (ready : List (Bor (LogUpdate Op))) (blocked : List (Blocked Op)) (at : ℕ) (v : LogUpdate Op)
       → IsHeld v ready (remove blocked at) → IsHeld v ready blocked
@@ -206,77 +179,70 @@ module _ {Op : Type 0} where
           go (inl same) = inl (sym has.2 ∙ ap (λ (r : Bor (LogUpdate Op)). r.now) same)
           go (inr among) = inr (inl (has.0, among, has.2))
 
-  module _ (Lacking : Spot → Type 0) (val_ts : Stamp) (ready : List (Bor (LogUpdate Op))) (blocked : List (Blocked Op))
-      (table : IsTableBy Lacking val_ts ready blocked) where
+  module _ (Lacking : Spot → Type 0) (val_ts : Stamp) (left : List (LogUpdate Op)) (ready : List (Bor (LogUpdate Op)))
+      (blocked : List (Blocked Op)) (table : IsTableBy Lacking val_ts left ready blocked) where
+    -- with one more that is left, those that are held are left
+    held-more : (u : LogUpdate Op) → IsAmong u left → (v : LogUpdate Op) → (v ≡ u) ⊎ IsHeld v ready blocked
+        → IsAmong v left
+    held-more u among v (inl same) = rw same among
+    held-more u among v (inr held) = table.held v held
+
     -- a table with one more ready update
-    pub table-put : (u : LogUpdate Op) (more : List (Bor (LogUpdate Op))) → IsNewTo val_ts u ready blocked
+    pub table-put : (u : LogUpdate Op) (more : List (Bor (LogUpdate Op))) → IsAmong u left
         → stamp_le u.prev val_ts ≡ true → IsPut u ready more → AreInOrder (λ r. r.now.spot) more
-        → IsTableBy Lacking val_ts more blocked
-    table-put u more new applied put order =
-        let from = λ (v : LogUpdate Op). (held-put u ready more blocked put v).0 in
-        record {
-          in_order = order;
-          causes = λ r among. out r (put.from r.now (r, among, refl));
-          by_need = table.by_need;
-          filed = table.filed;
-          one = one-more Lacking val_ts u ready more blocked blocked table new from;
-          fit = fit-more Lacking val_ts u ready more blocked blocked table new from;
-        }
+        → IsTableBy Lacking val_ts left more blocked
+    table-put u more among applied put order = record {
+      order = table.order;
+      fit = table.fit;
+      held = λ v held. held-more u among v ((held-put u ready more blocked put v).0 held);
+      in_order = order;
+      causes = λ r here. out r (put.from r.now (r, here, refl));
+      by_need = table.by_need;
+      filed = table.filed;
+    }
       where
         out : (r : Bor (LogUpdate Op)) → (r.now ≡ u) ⊎ Has (λ x. x.now) r.now ready → stamp_le r.now.prev val_ts ≡ true
         out r (inl same) = rw same applied
         out r (inr has) = rw (← has.2) (table.causes has.0 has.1)
 
     -- and with one more that needs something
-    pub table-block : (needs : Spot) (y : Bor (LogUpdate Op)) (at : ℕ) → IsNewTo val_ts y.now ready blocked
-        → Lacking needs → StandsAt val_ts y.now.prev needs
-        → AreByNeed (insert blocked at (record { needs = needs; update = y }))
-        → IsTableBy Lacking val_ts ready (insert blocked at (record { needs = needs; update = y }))
-    table-block needs y at new lacks stands order =
-        let from = λ (v : LogUpdate Op). (held-block needs y ready blocked at v).0 in
-        record {
-          in_order = table.in_order;
-          causes = table.causes;
-          by_need = order;
-          filed = filed-inserted Lacking val_ts needs y blocked at lacks stands table.filed;
-          one = one-more Lacking val_ts y.now ready ready blocked _ table new from;
-          fit = fit-more Lacking val_ts y.now ready ready blocked _ table new from;
-        }
+    pub table-block : (needs : Spot) (y : Bor (LogUpdate Op)) (at : ℕ) → IsAmong y.now left → Lacking needs
+        → StandsAt val_ts y.now.prev needs → AreByNeed (insert blocked at (record { needs = needs; update = y }))
+        → IsTableBy Lacking val_ts left ready (insert blocked at (record { needs = needs; update = y }))
+    table-block needs y at among lacks stands order = record {
+      order = table.order;
+      fit = table.fit;
+      held = λ v held. held-more y.now among v ((held-block needs y ready blocked at v).0 held);
+      in_order = table.in_order;
+      causes = table.causes;
+      by_need = order;
+      filed = filed-inserted Lacking val_ts needs y blocked at lacks stands table.filed;
+    }
 
     -- and with one fewer
-    pub table-removed : (at : ℕ) → IsTableBy Lacking val_ts ready (remove blocked at)
-    table-removed at =
-        let into = λ (v : LogUpdate Op) (held : IsHeld v ready (remove blocked at)). held-before ready blocked at v held in
-        record {
-          in_order = table.in_order;
-          causes = table.causes;
-          by_need = ascends-but (λ a b. not (is_before b.needs a.needs)) blocked at table.by_need;
-          filed = λ b among. table.filed b (removed-among blocked at b among);
-          one = λ u v first second same. table.one u v (into u first) (into v second) same;
-          fit = λ u held. table.fit u (into u held);
-        }
-
-    -- the one that is taken out may come again
-    pub removed-new : (at : ℕ) (b : Blocked Op) → slice_get blocked at ≡ Some b
-        → IsNewTo val_ts b.update.now ready (remove blocked at)
-    removed-new at b is =
-        let own : IsHeld b.update.now ready blocked = inr (b, among-get blocked at b is, refl) in
-        record {
-          one = λ v held same. table.one v b.update.now (held-before ready blocked at v held) own same;
-          fits = table.fit b.update.now own;
-        }
+    pub table-removed : (at : ℕ) → IsTableBy Lacking val_ts left ready (remove blocked at)
+    table-removed at = record {
+      order = table.order;
+      fit = table.fit;
+      held = λ v held. table.held v (held-before ready blocked at v held);
+      in_order = table.in_order;
+      causes = table.causes;
+      by_need = ascends-but (λ a b. not (is_before b.needs a.needs)) blocked at table.by_need;
+      filed = λ b among. table.filed b (removed-among blocked at b among);
+    }
 
   -- where none is met at the place that was raised, each that needs something lacks it
-  pub table-whole : (raised : ℕ) (val_ts : Stamp) (ready : List (Bor (LogUpdate Op))) (blocked : List (Blocked Op))
-      → IsTableBut raised val_ts ready blocked
+  pub table-whole : (raised : ℕ) (val_ts : Stamp) (left : List (LogUpdate Op)) (ready : List (Bor (LogUpdate Op)))
+      (blocked : List (Blocked Op)) → IsTableBut raised val_ts left ready blocked
       → ((b : Blocked Op) → IsAmong b blocked → is_met raised (part val_ts raised) b.needs ≡ false)
-      → IsTable val_ts ready blocked
-  table-whole raised val_ts ready blocked table unmet = record {
+      → IsTable val_ts left ready blocked
+  table-whole raised val_ts left ready blocked table unmet = record {
+    order = table.order;
+    fit = table.fit;
+    held = table.held;
     in_order = table.in_order;
     causes = table.causes;
     by_need = table.by_need;
     filed = λ b among.
         let was = table.filed b among in (lacks-there val_ts raised b.needs was.0 (unmet b among), was.1);
-    one = table.one;
-    fit = table.fit;
   }

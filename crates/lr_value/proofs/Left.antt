@@ -27,7 +27,7 @@ module _ {A : Type 0} where
   ascends-but before (x ∷ xs) (suc at) up =
       (all-but (λ y. before x y ≡ true) xs at up.0, ascends-but before xs at up.1)
 
-  some-but : (P : A → Type 0) (xs : List A) (at : ℕ) → ((k : ℕ) → ForSome (slice_get xs k) P)
+  pub some-but : (P : A → Type 0) (xs : List A) (at : ℕ) → ((k : ℕ) → ForSome (slice_get xs k) P)
       → (k : ℕ) → ForSome (slice_get (remove xs at) k) P
   some-but P [] zero all = all
   some-but P [] (suc at) all = all

@@ -69,7 +69,8 @@ module _ {Op : Type 0} where
   pub among-behind : (rs : List (Bor (LogUpdate Op))) (u : LogUpdate Op) → Has (λ r. r.now) u rs ↔ IsAmong u (behind rs)
   among-behind rs u = (λ has. into rs has.0 has.1 has.2, out rs)
     where
-      into : (rs : List (Bor (LogUpdate Op))) (r : Bor (LogUpdate Op)) → IsAmong r rs → r.now ≡ u → IsAmong u (behind rs)
+      into : (rs : List (Bor (LogUpdate Op))) (r : Bor (LogUpdate Op)) → IsAmong r rs → r.now ≡ u
+          → IsAmong u (behind rs)
       into [] r among is = absurd among
       into (x ∷ rs) r (inl same) is = inl (sym is ∙ ap (λ (r : Bor (LogUpdate Op)). r.now) same)
       into (x ∷ rs) r (inr among) is = inr (into rs r among is)

@@ -1,6 +1,7 @@
 -- Where something goes in a list that is sorted by spots.
-use Rattle.std.proofs.Common.{◌≡◌, ◌≢◌, ◌<◌, ◌≤◌, ℕ, zero, suc, Bool, true, false, not, ◌⊎◌, inl, inr, List, [], ◌∷◌, length}
-use Rattle.std.proofs.Common.{get_or, take, drop, refl, sym, ap, ◌∙◌, Some, None, arith, cond, true≢false, eq-eqb, eqb-true, leb-false}
+use Rattle.std.proofs.Common.{◌≡◌, ◌≢◌, ◌<◌, ◌≤◌, ℕ, zero, suc, Bool, true, false, not, ◌⊎◌, inl, inr, List, [], ◌∷◌}
+use Rattle.std.proofs.Common.{length, get_or, take, drop, refl, sym, ap, ◌∙◌, Some, None, arith, cond, true≢false}
+use Rattle.std.proofs.Common.{eq-eqb, eqb-true, leb-false}
 use Rattle.std.specs.Prelude.{◌==◌, ◌&&◌, filter, insert, nat_le, remove, slice_get}
 use Rattle.std.proofs.lemmas.Bool.Decides.{nat_tests}
 use Rattle.std.proofs.lemmas.Bool.{lt-leb}
@@ -172,14 +173,18 @@ module _ {A : Type 0} where
   within-take P [] zero all = tt
   within-take P [] (suc i) all = tt
   within-take P (x ∷ xs) zero all = tt
-  within-take P (x ∷ xs) (suc i) all =
-      (all 0 x (omega arith) (omega arith), within-take P xs i (λ k d low high. all (suc k) d (omega arith) (omega arith)))
+  within-take P (x ∷ xs) (suc i) all = (
+    all 0 x (omega arith) (omega arith),
+    within-take P xs i (λ k d low high. all (suc k) d (omega arith) (omega arith)),
+  )
 
   within-drop : (P : A → Type 0) (xs : List A) (i : ℕ) → AllWithin P xs i (length xs) → AllByRecursion P (drop i xs)
   within-drop P [] zero all = tt
   within-drop P [] (suc i) all = tt
-  within-drop P (x ∷ xs) zero all =
-      (all 0 x (omega arith) (omega arith), within-drop P xs 0 (λ k d low high. all (suc k) d (omega arith) (omega arith)))
+  within-drop P (x ∷ xs) zero all = (
+    all 0 x (omega arith) (omega arith),
+    within-drop P xs 0 (λ k d low high. all (suc k) d (omega arith) (omega arith)),
+  )
   within-drop P (x ∷ xs) (suc i) all = within-drop P xs i (λ k d low high. all (suc k) d (omega arith) (omega arith))
 
   each-get : (P : A → Type 0) (xs : List A) (k : ℕ) (d : A) → k < length xs → AllByRecursion P xs → P (get_or xs k d)
@@ -194,16 +199,19 @@ module _ {A : Type 0} where
   parted R p down (x ∷ xs) up zero (suc j) d le within is =
       down x (get_or xs j d) (each-get (λ y. R x y ≡ true) xs j d (omega arith) up.0) is
   parted R p down (x ∷ xs) up (suc i) zero d le within is = absurd (omega arith)
-  parted R p down (x ∷ xs) up (suc i) (suc j) d le within is = parted R p down xs up.1 i j d (omega arith) (omega arith) is
+  parted R p down (x ∷ xs) up (suc i) (suc j) d le within is =
+      parted R p down xs up.1 i j d (omega arith) (omega arith) is
 
   module _ (spot_of : A → Spot) where
     pub parted-spots : (spot : Spot) (xs : List A) → Ascends (λ a b. is_before (spot_of a) (spot_of b)) xs
         → IsPartitionedBy (λ x. is_before (spot_of x) spot) xs
-    parted-spots spot xs up = parted _ _ (λ x y first second. before-trans (spot_of x) (spot_of y) spot first second) xs up
+    parted-spots spot xs up =
+        parted _ _ (λ x y first second. before-trans (spot_of x) (spot_of y) spot first second) xs up
 
     pub parted-needs : (spot : Spot) (xs : List A) → Ascends (λ a b. not (is_before (spot_of b) (spot_of a))) xs
         → IsPartitionedBy (λ x. is_before (spot_of x) spot) xs
-    parted-needs spot xs up = parted _ _ (λ x y first second. before-low (spot_of x) (spot_of y) spot first second) xs up
+    parted-needs spot xs up =
+        parted _ _ (λ x y first second. before-low (spot_of x) (spot_of y) spot first second) xs up
 
     pub place-point : (spot : Spot) (xs : List A) (at : ℕ) → at ≤ length xs
         → IsPartitionPoint (λ x. is_before (spot_of x) spot ≡ true) (λ x. is_before (spot_of x) spot ≡ false) xs at
@@ -215,7 +223,8 @@ module _ {A : Type 0} where
     }
 
     -- where none has the spot, it comes before all from its place on
-    all-behind : (spot : Spot) (xs : List A) (at : ℕ) → AllByRecursion (λ x. is_before (spot_of x) spot ≡ false) (drop at xs)
+    all-behind : (spot : Spot) (xs : List A) (at : ℕ)
+        → AllByRecursion (λ x. is_before (spot_of x) spot ≡ false) (drop at xs)
         → Ascends (λ a b. is_before (spot_of a) (spot_of b)) xs
         → ((x : A) → slice_get xs at ≡ Some x → spot_of x ≢ spot)
         → AllByRecursion (λ x. is_before spot (spot_of x) ≡ true) (drop at xs)

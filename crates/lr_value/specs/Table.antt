@@ -1,10 +1,10 @@
 -- Updates that wait, each under what it waits for.
-use Rattle.std.specs.Prelude.{◌≡◌, ◌≢◌, ◌<◌, ◌≤◌, ◌⊎◌, ◌==◌, ◌&&◌, ℕ, suc, Bool, true, false, not, nat_le, filter, length}
-use Rattle.std.specs.Prelude.{List, take, drop}
+use Rattle.std.specs.Prelude.{◌≡◌, ◌≢◌, ◌<◌, ◌≤◌, ◌⊎◌, ◌==◌, ◌&&◌, ℕ, suc, Bool, true, false, not}
+use Rattle.std.specs.Prelude.{nat_le, filter, length, List, take, drop}
 use Rattle.std.specs.List.{AllByRecursion}
 use Rattle.std.specs.Borrow.{Bor}
 use Rattle.lr_base.specs.Insertion.{Ascends}
-use Rattle.lr_base.specs.Logged.{Fits}
+use Rattle.lr_base.specs.Logged.{AllFit}
 use Rattle.lr_base.specs.Orders.{IsAmong}
 use Rattle.lr_base.specs.Places.{AreInOrder}
 use Rattle.lr_base.specs.Rules.{is_before}
@@ -54,27 +54,24 @@ pub record IsPut {Op : Type 0} (u : LogUpdate Op) (old new : List (Bor (LogUpdat
   pub from : (v : LogUpdate Op) → Has (λ r. r.now) v new → (v ≡ u) ⊎ Has (λ r. r.now) v old
   pub count : length new ≤ suc (length old)
 
--- The ready updates stand in the order of their spots, and their causes are applied; the others stand in the order of
--- what they need, each at the first place that it lacks. No two have one spot.
-pub record IsTableBy {Op : Type 0} (Lacking : Spot → Type 0) (val_ts : Stamp) (ready : List (Bor (LogUpdate Op)))
-    (blocked : List (Blocked Op)) : Type 0 where
+-- A table of updates that are left, which are in the order of their spots: the ready ones stand in that order, and
+-- their causes are applied; the others stand in the order of what they need, each at the first place that it lacks.
+pub record IsTableBy {Op : Type 0} (Lacking : Spot → Type 0) (val_ts : Stamp) (left : List (LogUpdate Op))
+    (ready : List (Bor (LogUpdate Op))) (blocked : List (Blocked Op)) : Type 0 where
+  pub order : AreInOrder (λ u. u.spot) left
+  pub fit : AllFit (length val_ts) left
+  pub held : (u : LogUpdate Op) → IsHeld u ready blocked → IsAmong u left
   pub in_order : AreInOrder (λ r. r.now.spot) ready
   pub causes : (r : Bor (LogUpdate Op)) → IsAmong r ready → stamp_le r.now.prev val_ts ≡ true
   pub by_need : AreByNeed blocked
   pub filed : (b : Blocked Op) → IsAmong b blocked → Lacking b.needs × StandsAt val_ts b.update.now.prev b.needs
-  pub one : (u v : LogUpdate Op) → IsHeld u ready blocked → IsHeld v ready blocked → u.spot ≡ v.spot → u ≡ v
-  pub fit : (u : LogUpdate Op) → IsHeld u ready blocked → Fits (length val_ts) u
 
 -- each that needs something lacks it
-abbrev pub IsTable : {Op : Type 0} → Stamp → List (Bor (LogUpdate Op)) → List (Blocked Op) → Type 0
+abbrev pub IsTable : {Op : Type 0} → Stamp → List (LogUpdate Op) → List (Bor (LogUpdate Op)) → List (Blocked Op)
+    → Type 0
 IsTable val_ts = IsTableBy (Lacks val_ts) val_ts
 
 -- the same, but for what is needed at a place that was raised
-abbrev pub IsTableBut : {Op : Type 0} → ℕ → Stamp → List (Bor (LogUpdate Op)) → List (Blocked Op) → Type 0
+abbrev pub IsTableBut : {Op : Type 0} → ℕ → Stamp → List (LogUpdate Op) → List (Bor (LogUpdate Op))
+    → List (Blocked Op) → Type 0
 IsTableBut raised val_ts = IsTableBy (λ needs. needs.place ≢ raised → Lacks val_ts needs) val_ts
-
--- the update may come to those that are held: it is none of theirs, or the same
-pub record IsNewTo {Op : Type 0} (val_ts : Stamp) (u : LogUpdate Op) (ready : List (Bor (LogUpdate Op)))
-    (blocked : List (Blocked Op)) : Type 0 where
-  pub one : (v : LogUpdate Op) → IsHeld v ready blocked → v.spot ≡ u.spot → v ≡ u
-  pub fits : Fits (length val_ts) u

@@ -6,7 +6,7 @@ ghost use Rattle.lr_base.specs.Orders.{IsAmong};
 ghost use Rattle.lr_base.specs.Places.{AreInOrder};
 ghost use Rattle.lr_base.specs.Rules.{is_before as spot_is_before};
 ghost use Rattle.lr_base.specs.Stamps.{part, stamp_le};
-ghost use Rattle.lr_value.specs.Table.{AreByNeed, Has, IsHeld, IsNewTo, IsPlaceFor, IsPut, IsTable, IsTableBut};
+ghost use Rattle.lr_value.specs.Table.{AreByNeed, Has, IsHeld, IsPlaceFor, IsPut, IsTable, IsTableBut};
 ghost use Rattle.lr_value.specs.Table.{Lacks, StandsAt, count_met, is_met as is_met_at};
 ghost use Rattle.lr_value.specs.Waiting.{behind};
 
@@ -112,9 +112,10 @@ impl<'a, O: Drop> Table<'a, O> {
     ) -> Result<Self, NoMemory>
         requires fit { AllFit (length val_ts.now) (behind waiting.items) }
         requires in_order { AreInOrder (λ u. u.spot) (behind waiting.items) }
-        ensures table { IfOk result (λ made. IsTable val_ts.now made.ready.items made.blocked.items) }
-        ensures held { IfOk result (λ made. (u : _) → IsHeld u made.ready.items made.blocked.items
-            ↔ IsAmong u (behind waiting.entry.items)) }
+        ensures table { IfOk result (λ made.
+            IsTable val_ts.now (behind waiting.entry.items) made.ready.items made.blocked.items) }
+        ensures whole { IfOk result (λ made. (u : _) → IsAmong u (behind waiting.entry.items)
+            → IsHeld u made.ready.items made.blocked.items) }
     {
         let mut table = Table {
             ready: waiting,
@@ -162,11 +163,12 @@ impl<'a, O: Drop> Table<'a, O> {
 
     // Puts an update where it belongs, by what its causes lack.
     fn file(&mut self, update: &'a LogUpdate<O>, val_ts: &Stamp) -> Result<(), NoMemory>
-        requires table { (raised : ℕ) × IsTableBut raised val_ts.now self.old.ready.items self.old.blocked.items }
-        requires one { IsNewTo val_ts.now update.now self.old.ready.items self.old.blocked.items }
-        ensures table { OnOk result ((raised : ℕ)
-            → IsTableBut raised val_ts.now self.old.ready.items self.old.blocked.items
-            → IsTableBut raised val_ts.now self.new.ready.items self.new.blocked.items) }
+        requires { (raised : ℕ) × (left : _)
+            × IsTableBut raised val_ts.now left self.old.ready.items self.old.blocked.items
+            × IsAmong update.now left }
+        ensures table { OnOk result ((raised : ℕ) (left : _) → IsAmong update.now left
+            → IsTableBut raised val_ts.now left self.old.ready.items self.old.blocked.items
+            → IsTableBut raised val_ts.now left self.new.ready.items self.new.blocked.items) }
         ensures held { OnOk result ((u : _) → IsHeld u self.new.ready.items self.new.blocked.items
             ↔ ((u ≡ update.now) ⊎ IsHeld u self.old.ready.items self.old.blocked.items)) }
         ensures count { OnOk result (length self.new.ready.items + length self.new.blocked.items
@@ -182,9 +184,11 @@ impl<'a, O: Drop> Table<'a, O> {
 
     /// Looks again at the updates that wait for this place, as far as it has what they need there.
     pub(crate) fn wake(&mut self, place: u8, val_ts: &Stamp) -> Result<(), NoMemory>
-        requires table { IsTableBut place val_ts.now self.old.ready.items self.old.blocked.items }
+        requires table { (left : _) × IsTableBut place val_ts.now left self.old.ready.items self.old.blocked.items }
         requires within { place < length val_ts.now }
-        ensures table { OnOk result (IsTable val_ts.now self.new.ready.items self.new.blocked.items) }
+        ensures table { OnOk result ((left : _)
+            → IsTableBut place val_ts.now left self.old.ready.items self.old.blocked.items
+            → IsTable val_ts.now left self.new.ready.items self.new.blocked.items) }
         ensures held { OnOk result ((u : _) → IsHeld u self.new.ready.items self.new.blocked.items
             ↔ IsHeld u self.old.ready.items self.old.blocked.items) }
         ensures count { OnOk result (length self.new.ready.items + length self.new.blocked.items
@@ -212,7 +216,7 @@ impl<'a, O: Drop> Table<'a, O> {
 
     /// All updates of a table in the order of their spots, where no causes are applied.
     pub(crate) fn rest(mut self) -> Result<Vec<&'a LogUpdate<O>>, NoMemory>
-        requires { (val_ts : _) × IsTable val_ts self.ready.items self.blocked.items }
+        requires { (val_ts : _) × (left : _) × IsTable val_ts left self.ready.items self.blocked.items }
         ensures in_order { IfOk result (λ rest. AreInOrder (λ u. u.spot) (behind rest.items)) }
         ensures held { IfOk result (λ rest. (u : _) → IsAmong u (behind rest.items)
             ↔ IsHeld u self.entry.ready.items self.entry.blocked.items) }

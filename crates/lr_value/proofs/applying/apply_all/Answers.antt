@@ -1,16 +1,15 @@
 use Rattle.std.proofs.Common.{◌≡◌, ◌∙◌, length, inl, sym, refl}
 use Rattle.std.specs.Prelude.{remove}
-use Rattle.lr_base.specs.Rules.{is_before}
 use Rattle.lr_value.specs.Applied.{progress_at}
 use Rattle.lr_value.specs.Waiting.{behind}
 use Rattle.lr_value.proofs.Ended.{blocked-idle, one-covers-at, one-grows-at}
 use Rattle.lr_value.proofs.Facts.{AllFit-logged, AllLogged-remove}
 use Rattle.lr_value.proofs.Held.{if-both, if-ok}
-use Rattle.lr_value.proofs.Left.{ascends-but, left-all, left-but}
-use Rattle.lr_value.proofs.Members.{same-members}
+use Rattle.lr_value.proofs.Left.{left-all, left-but}
+use Rattle.lr_value.proofs.Members.{fits-among, same-members}
 use Rattle.lr_value.proofs.Ready.{apply_ready-step}
 use Rattle.lr_value.proofs.Tables.{goes_further, stays}
-use Rattle.lr_value.proofs.Taking.{held-others, others-stay, table-others, takes, takes-none}
+use Rattle.lr_value.proofs.Taking.{held-others, table-next, takes, takes-none}
 use Rattle.lr_value.proofs.applying.apply_all.Goals as goal
 
 pub of-requires-clause-fit : goal.of-requires-clause-fit
@@ -20,9 +19,8 @@ of-requires-clause-fit g c =
 pub loop-update-init : goal.loop-update-init
 loop-update-init g c = record {
   left = behind c.args.waiting.items;
-  order = c.requires.in_order;
-  held = c.in_ok-table.ensures.held;
   table = c.in_ok-table.ensures.table;
+  whole = c.in_ok-table.ensures.whole;
   same = refl;
   leads = λ from e. e;
   of_left = left-all c.args.draft.now.val_ts (behind c.args.waiting.items);
@@ -33,33 +31,32 @@ loop-update-init g c = record {
 pub execute-requires : goal.execute-requires
 execute-requires g c =
     let old = c.loop-update.invariant in
-    let held = rw c.in-Some.ensures.some at old.held in
+    let whole = rw c.in-Some.ensures.some at old.whole in
     let table = rw c.in-Some.ensures.some at old.table in
-    let taken = takes c.loop-update.draft.val_ts old.left old.order c.in-Some.update
-    c.take_first.new.self.ready.items c.loop-update.table.blocked.items table held in
+    let taken = takes c.loop-update.draft.val_ts old.left c.in-Some.update c.take_first.new.self.ready.items
+    c.loop-update.table.blocked.items table whole in
     rw old.goes_on.parts (old.logged taken.0 c.in-Some.update.now taken.1)
 
 pub wake-requires-clause-table : goal.wake-requires-clause-table
 wake-requires-clause-table g c =
     let old = c.loop-update.invariant in
-    let m = g.S.Service.meaning in
-    let p = progress_at c.loop-update.draft.value c.loop-update.draft.val_ts (g.E.Executed.known c.loop-update.calls) in
     let next = progress_at c.execute.new.draft.value c.execute.new.draft.val_ts
     (g.E.Executed.known c.execute.new.calls) in
-    let held = rw c.in-Some.ensures.some at old.held in
+    let whole = rw c.in-Some.ensures.some at old.whole in
     let table = rw c.in-Some.ensures.some at old.table in
-    let update = c.in-Some.update in
-    rw c.take_first.ensures.blocked
-    (table-others c.loop-update.draft.val_ts old.left old.order update c.take_first.new.self.ready.items
-    c.loop-update.table.blocked.items table held update.now.spot.place c.execute.new.draft.val_ts
-    (one-grows-at m p next update.now c.in_ok-execute.ensures.ok) c.in_ok-execute.ensures.goes_on.parts
-    (λ q other. others-stay m p next update.now c.in_ok-execute.ensures.ok (table.causes update (inl refl)) q other))
+    rw c.take_first.ensures.blocked (
+      _,
+      table-next c.loop-update.draft.val_ts old.left c.in-Some.update c.take_first.new.self.ready.items
+          c.loop-update.table.blocked.items table whole g.S.Service.meaning c.loop-update.draft.value
+          (g.E.Executed.known c.loop-update.calls) next c.in_ok-execute.ensures.ok c.in_ok-execute.ensures.goes_on.parts,
+    )
 
 pub wake-requires-clause-within : goal.wake-requires-clause-within
 wake-requires-clause-within g c =
     let table = rw c.in-Some.ensures.some at c.loop-update.invariant.table in
     let update = c.in-Some.update in
-    rw c.in_ok-execute.ensures.goes_on.parts (table.fit update.now (inl (update, inl refl, refl))).place
+    rw c.in_ok-execute.ensures.goes_on.parts (fits-among _ c.loop-update.invariant.left table.fit update.now
+    (table.held update.now (inl (update, inl refl, refl)))).place
 
 pub loop-update-preserved : goal.loop-update-preserved
 loop-update-preserved g c =
@@ -72,17 +69,18 @@ loop-update-preserved g c =
     let update = c.in-Some.update in
     let rest = c.take_first.new.self.ready.items in
     let blocked = c.loop-update.table.blocked.items in
-    let held = rw c.in-Some.ensures.some at old.held in
+    let whole = rw c.in-Some.ensures.some at old.whole in
     let table = rw c.in-Some.ensures.some at old.table in
-    let taken = takes c.loop-update.draft.val_ts old.left old.order update rest blocked table held in
+    let val_ts = c.loop-update.draft.val_ts in
+    let taken = takes val_ts old.left update rest blocked table whole in
     let woken = rw c.take_first.ensures.blocked at c.in_ok-wake.ensures.held in
     record {
       left = remove old.left taken.0;
-      order = ascends-but (λ a b. is_before a.spot b.spot) old.left taken.0 old.order;
-      held = λ u.
-          let others = held-others c.loop-update.draft.val_ts old.left old.order update rest blocked table held u in
-          (λ is. others.0 ((woken u).0 is), λ among. (woken u).1 (others.1 among));
-      table = c.in_ok-wake.ensures.table;
+      table = c.in_ok-wake.ensures.table _ (rw c.take_first.ensures.blocked
+          (table-next val_ts old.left update rest blocked table whole m c.loop-update.draft.value
+          (g.E.Executed.known c.loop-update.calls) next c.in_ok-execute.ensures.ok
+          c.in_ok-execute.ensures.goes_on.parts));
+      whole = λ u among. (woken u).1 ((held-others val_ts old.left update rest blocked table whole u).1 among);
       same = rw c.in_ok-execute.ensures.ok
           (sym (apply_ready-step m old.left taken.0 update.now p taken.1 taken.2) ∙ old.same);
       leads = λ from e. c.in_ok-execute.ensures.since from (old.leads from e);
@@ -106,9 +104,10 @@ pub returns-clause-ok : goal.returns-clause-ok
 returns-clause-ok g c =
     let m = g.S.Service.meaning in
     let old = c.loop-update.invariant in
-    let now = progress_at c.loop-update.draft.value c.loop-update.draft.val_ts (g.E.Executed.known c.loop-update.calls) in
-    let none = takes-none c.loop-update.draft.val_ts old.left old.order c.loop-update.table.ready.items
-    c.loop-update.table.blocked.items (c.in_default.ensures.none refl) old.table old.held in
+    let now = progress_at c.loop-update.draft.value c.loop-update.draft.val_ts
+    (g.E.Executed.known c.loop-update.calls) in
+    let none = takes-none c.loop-update.draft.val_ts old.left c.loop-update.table.ready.items
+    c.loop-update.table.blocked.items (c.in_default.ensures.none refl) old.table old.whole in
     if-ok c.rest.result _ (λ x. sym (blocked-idle m (length old.left) old.left now none) ∙ old.same)
 
 pub returns-clause-left : goal.returns-clause-left
@@ -116,8 +115,8 @@ returns-clause-left g c =
     let old = c.loop-update.invariant in
     if-both c.rest.result _ _ _ (λ rest order held.
     let same : old.left ≡ behind rest.items =
-    same-members old.left (behind rest.items) old.order order (λ u. (
-      λ among. (held u).1 ((old.held u).1 among),
-      λ among. (old.held u).0 ((held u).0 among),
+    same-members old.left (behind rest.items) old.table.order order (λ u. (
+      λ among. (held u).1 (old.whole u among),
+      λ among. old.table.held u ((held u).0 among),
     )) in
     rw (← same) old.of_left) c.rest.ensures.in_order (rw (c.in_default.ensures.unchanged refl) at c.rest.ensures.held)

@@ -1,9 +1,8 @@
-use Rattle.std.proofs.Common.{◌≡◌, ◌+◌, ◌↔◌, length, vec_len}
+use Rattle.std.proofs.Common.{◌≡◌, ◌+◌, length, vec_len}
 use Rattle.std.specs.Prelude.{List}
 use Rattle.lr_base.specs.declared.messages.LogUpdate.{LogUpdate}
 use Rattle.lr_base.specs.Logged.{AllLogged}
 use Rattle.lr_base.specs.Orders.{IsAmong}
-use Rattle.lr_base.specs.Places.{AreInOrder}
 use Rattle.lr_base.specs.Rules.{apply_ready}
 use Rattle.lr_value.specs.Applied.{GoesOn, progress_at}
 use Rattle.lr_value.specs.Executing.{LeadsOn}
@@ -20,9 +19,8 @@ invariant-loop-update g l =
     let now = progress_at l.draft.value l.draft.val_ts (g.E.Executed.known l.calls) in
     record {
       left : List (LogUpdate _);
-      order : AreInOrder (λ u. u.spot) left;
-      held : (u : _) → IsHeld u l.table.ready.items l.table.blocked.items ↔ IsAmong u left;
-      table : IsTable l.draft.val_ts l.table.ready.items l.table.blocked.items;
+      table : IsTable l.draft.val_ts left l.table.ready.items l.table.blocked.items;
+      whole : (u : _) → IsAmong u left → IsHeld u l.table.ready.items l.table.blocked.items;
       same : apply_ready m (length left) left now ≡ apply_ready m (length todo) todo first;
       leads : LeadsOn m l.initial.draft.since l.initial.draft.value l.draft.since l.draft.value;
       of_left : AreLeft l.draft.val_ts todo left;

@@ -7,7 +7,7 @@ use Rattle.lr_value.specs.Table.{Lacks}
 use Rattle.lr_value.specs.Waiting.{behind}
 use Rattle.lr_value.proofs.Held.{filed-inserted, held-shelved}
 use Rattle.lr_value.proofs.Left.{ascends-but}
-use Rattle.lr_value.proofs.Members.{fits-among, held-alone, order-behind, same-spot}
+use Rattle.lr_value.proofs.Members.{fits-among, held-alone, order-behind}
 use Rattle.lr_value.proofs.Placed.{among-get, each-among, get-at, take-removed, take-whole}
 use Rattle.lr_value.proofs.waiting.Table.of.Goals as goal
 
@@ -56,7 +56,6 @@ loop-at-preserved g c =
 pub returns-clause-table : goal.returns-clause-table
 returns-clause-table g c =
     let old = c.loop-at.invariant in
-    let all = behind c.args.waiting.items in
     let ready = c.loop-at.table.ready.items in
     record {
       in_order = old.in_order;
@@ -64,7 +63,10 @@ returns-clause-table g c =
           (take-whole _ ready c.loop-at.at (omega arith) old.seen);
       by_need = old.by_need;
       filed = old.filed;
-      one = λ u v first second same. same-spot all c.requires.in_order u v ((old.held u).0 first)
-          ((old.held v).0 second) same;
-      fit = λ u held. fits-among _ all c.requires.fit u ((old.held u).0 held);
+      order = c.requires.in_order;
+      fit = c.requires.fit;
+      held = λ u held. (old.held u).0 held;
     }
+
+pub returns-clause-whole : goal.returns-clause-whole
+returns-clause-whole g c u among = (c.loop-at.invariant.held u).1 among

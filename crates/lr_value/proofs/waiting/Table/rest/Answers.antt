@@ -1,7 +1,8 @@
 use Rattle.std.proofs.Common.{◌≡◌, ◌∙◌, inl, length, refl, sym, arith}
 use Rattle.std.proofs.lemmas.List.Edits.{insert_end}
+use Rattle.lr_value.specs.Table.{IsHeld}
 use Rattle.lr_value.proofs.Held.{held-block, held-over}
-use Rattle.lr_value.proofs.Members.{held-alone, order-behind}
+use Rattle.lr_value.proofs.Members.{held-alone, order-behind, same-spot}
 use Rattle.lr_value.proofs.waiting.Table.rest.Goals as goal
 
 pub free-requires-clause-one : goal.free-requires-clause-one
@@ -12,8 +13,11 @@ free-requires-clause-one g c r among same =
     let own = (held-block c.in-Some.met.needs c.in-Some.met.update before.ready.items further (length further)
     c.in-Some.met.update.now).1 (inl refl) in
     let held = rw (← popped) at own in
-    c.requires.1.one r.now c.in-Some.met.update.now ((c.loop-met.invariant.held r.now).0 (inl (r, among, refl)))
-    ((c.loop-met.invariant.held c.in-Some.met.update.now).0 held) same
+    let table = c.requires.2 in
+    let left = λ (u : _) (now : IsHeld u before.ready.items before.blocked.items).
+    table.held u ((c.loop-met.invariant.held u).0 now) in
+    same-spot c.requires.1 table.order r.now c.in-Some.met.update.now (left r.now (inl (r, among, refl)))
+    (left c.in-Some.met.update.now held) same
 
 pub loop-met-preserved : goal.loop-met-preserved
 loop-met-preserved g c =

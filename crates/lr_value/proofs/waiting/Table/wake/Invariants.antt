@@ -6,7 +6,8 @@ use Rattle.lr_value.proofs.waiting.Table.wake.Given as goal
 -- the table holds the same updates, and only those that wait for this place may have what they need
 abbrev pub invariant-loop-at : goal.invariant-loop-at
 invariant-loop-at g l = record {
-  table : IsTableBut l.place l.val_ts l.self.ready.items l.self.blocked.items;
+  table : (left : _) → IsTableBut l.place l.val_ts left l.initial.self.ready.items l.initial.self.blocked.items
+      → IsTableBut l.place l.val_ts left l.self.ready.items l.self.blocked.items;
   held : (u : _) → IsHeld u l.self.ready.items l.self.blocked.items
       ↔ IsHeld u l.initial.self.ready.items l.initial.self.blocked.items;
   count : length l.self.ready.items + length l.self.blocked.items
