@@ -96,7 +96,7 @@ module _ {Op : Type 0} where
 
 module _ {Value Op : Type 0} (m : Meaning Value Op) where
   -- applying an update joins its stamp
-  one-joins : (p : Progress Value) (u : LogUpdate Op) → (apply_one m p u).val_ts ≡ join p.val_ts (stamp_of u)
+  pub one-joins : (p : Progress Value) (u : LogUpdate Op) → (apply_one m p u).val_ts ≡ join p.val_ts (stamp_of u)
   one-joins p u = go (is_some (known_of p.calls u.cid)) refl
     where
       go : (was : Bool) → is_some (known_of p.calls u.cid) ≡ was → (apply_one m p u).val_ts ≡ join p.val_ts (stamp_of u)

@@ -4,9 +4,6 @@ use Rattle.std.specs.Prelude.{filter, remove}
 use Rattle.lr_base.specs.declared.lr_service.Kind.{Kind}
 use Rattle.lr_base.specs.declared.messages.LogUpdate.{LogUpdate}
 use Rattle.lr_base.specs.Logged.{IsLogged, AllFit, AllLogged}
-use Rattle.lr_value.specs.Waiting.{behind}
-use Rattle.lr_value.proofs.Ready.{behind-remove}
-use Rattle.std.specs.Borrow.{Bor}
 
 module _ {Op : Type 0} (kind_of : Op → Kind) (parts : ℕ) where
   -- a list of such updates with one more in front
@@ -31,13 +28,6 @@ module _ {Op : Type 0} (kind_of : Op → Kind) (parts : ℕ) where
       → AllLogged kind_of parts updates → AllFit most same
   AllFit-logged most updates same is long all =
       rw (is, long) (λ k u e. record { prev = (all k u e).prev; place = (all k u e).place })
-
-  -- such updates behind references, without one of them
-  pub AllLogged-behind : (references new : List (Bor (LogUpdate Op))) (at : ℕ) → new ≡ remove references at
-      → AllLogged kind_of parts (behind references) → AllLogged kind_of parts (behind new)
-  AllLogged-behind references new at is all =
-      let others : behind (remove references at) ≡ remove (behind references) at = behind-remove references at in
-      rw (is, others) (AllLogged-remove (behind references) at all)
 
   -- such updates under another name
   pub AllLogged-along : (count : ℕ) (updates same : List (LogUpdate Op)) → same ≡ updates → count ≡ parts

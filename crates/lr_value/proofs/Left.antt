@@ -20,14 +20,14 @@ module _ {A : Type 0} where
   all-but P (x ∷ xs) zero all = all.1
   all-but P (x ∷ xs) (suc at) all = (all.0, all-but P xs at all.1)
 
-  ascends-but : (before : A → A → Bool) (xs : List A) (at : ℕ) → Ascends before xs → Ascends before (remove xs at)
+  pub ascends-but : (before : A → A → Bool) (xs : List A) (at : ℕ) → Ascends before xs → Ascends before (remove xs at)
   ascends-but before [] zero up = tt
   ascends-but before [] (suc at) up = tt
   ascends-but before (x ∷ xs) zero up = up.1
   ascends-but before (x ∷ xs) (suc at) up =
       (all-but (λ y. before x y ≡ true) xs at up.0, ascends-but before xs at up.1)
 
-  some-but : (P : A → Type 0) (xs : List A) (at : ℕ) → ((k : ℕ) → ForSome (slice_get xs k) P)
+  pub some-but : (P : A → Type 0) (xs : List A) (at : ℕ) → ((k : ℕ) → ForSome (slice_get xs k) P)
       → (k : ℕ) → ForSome (slice_get (remove xs at) k) P
   some-but P [] zero all = all
   some-but P [] (suc at) all = all
@@ -40,7 +40,7 @@ module _ {A : Type 0} where
       front rest (suc k) = rest k
 
   -- what is among the elements is the one that is removed, or is among the others
-  among-but : (x : A) (xs : List A) (at : ℕ) (taken : A) → slice_get xs at ≡ Some taken → IsAmong x xs
+  pub among-but : (x : A) (xs : List A) (at : ℕ) (taken : A) → slice_get xs at ≡ Some taken → IsAmong x xs
       → (x ≡ taken) ⊎ IsAmong x (remove xs at)
   among-but x [] at taken is among = inr (absurd among)
   among-but x (y ∷ xs) zero taken is (inl same) = let e : y ≡ taken = cc in inl (same ∙ e)

@@ -2,8 +2,13 @@ mod Ended
 mod Executed
 mod Facts
 mod Gathered
+mod Held
+mod Lacking
 mod Left
+mod Members
 mod Numbered
+mod Placed
 mod Ready
 mod Settled
 mod Tables
+mod Taking

@@ -1,4 +1,5 @@
 pub mod Applied
 pub mod Executing
 pub mod Remembered
+pub mod Table
 pub mod Waiting

@@ -3,15 +3,17 @@ ghost use Rattle.std.specs.Prelude.{◌≡◌, ◌∷◌, ◌++◌, [], length, 
 ghost use Rattle.lr_base.specs.Calls.{enter_call};
 ghost use Rattle.lr_base.specs.Kinds.{IsUpdate};
 ghost use Rattle.lr_base.specs.Logged.{AllLogged, IsLogged};
+ghost use Rattle.lr_base.specs.Places.{AreInOrder};
 ghost use Rattle.lr_base.specs.Rules.{apply_one, apply_ready as rule, known_of};
 ghost use Rattle.lr_value.specs.Applied.{GoesOn, progress_at};
 ghost use Rattle.lr_value.specs.Executing.{LeadsOn};
 ghost use Rattle.lr_value.specs.Waiting.{AreLeft, behind};
 
-use crate::gathering::first_ready;
 use crate::ops::Ops;
+use crate::waiting::Table;
 use lr_base::lr_service::Service;
 use lr_base::{Executed, Known, LogUpdate, NoMemory, Stamp};
+use std::alloc::Global;
 
 /// A value that is changed, and the operations that were executed on it.
 #[derive(Drop)]
@@ -78,11 +80,13 @@ fn execute<S: Service, E: Executed>(
 /// Applies what waits, each time the first whose causes are applied, until none is left that may be. It answers what
 /// still waits.
 pub(crate) fn apply_all<'a, S: Service, E: Executed>(
+    alloc: Global,
     draft: &mut Draft<S>,
     calls: &mut E,
-    mut waiting: Vec<&'a LogUpdate<S::Op>>,
+    waiting: Vec<&'a LogUpdate<S::Op>>,
 ) -> Result<Vec<&'a LogUpdate<S::Op>>, NoMemory>
-    requires { AllLogged S.Op.kind_of (length draft.old.val_ts) (behind waiting.items) }
+    requires logged { AllLogged S.Op.kind_of (length draft.old.val_ts) (behind waiting.items) }
+    requires in_order { AreInOrder (λ u. u.spot) (behind waiting.items) }
     ensures ok { let todo = behind waiting.entry.items in
         OnOk result (progress_at draft.new.value draft.new.val_ts (E.known calls.new)
         ≡ rule S.meaning (length todo) todo (progress_at draft.old.value draft.old.val_ts (E.known calls.old))) }
@@ -95,9 +99,10 @@ pub(crate) fn apply_all<'a, S: Service, E: Executed>(
         (progress_at draft.new.value draft.new.val_ts (E.known calls.new)) }
     ensures kept { E.kept calls.new ≡ E.kept calls.old }
 {
-    while let Some(at) = first_ready(waiting.as_slice(), &draft.val_ts) {
-        let update = waiting.remove(at);
+    let mut table = Table::of(alloc, waiting, &draft.val_ts)?;
+    while let Some(update) = table.take_first() {
         execute(draft, calls, update)?;
+        table.wake(update.spot.place, &draft.val_ts)?;
     }
-    Ok(waiting)
+    table.rest()
 }

@@ -1,12 +1,12 @@
 //! The logged updates that aren't applied yet, found by what is remembered of the log.
 ghost use Rattle.std.specs.Prelude.{ℕ, ◌≡◌, ◌<◌, ◌≤◌, ◌==◌, ◌++◌, not, drop, filter, length, nat_le, nat_lt, take};
-ghost use Rattle.std.specs.Prelude.{None, IsNone, IfSome, IfOk, OnOk};
+ghost use Rattle.std.specs.Prelude.{IfOk, OnOk, is_some};
 ghost use Rattle.std.specs.Option.{ForSome};
 ghost use Rattle.lr_base.specs.Logged.{AllFit, Fits};
 ghost use Rattle.lr_base.specs.Places.{AreInOrder};
 ghost use Rattle.lr_base.specs.Rules.{is_covered, take_ready, waiting as waiting_of};
 ghost use Rattle.lr_value.specs.Remembered.{IsMemoryOf};
-ghost use Rattle.lr_value.specs.Waiting.{AreOfPlace, TakesAt, at_spot, behind, picked};
+ghost use Rattle.lr_value.specs.Waiting.{AreOfPlace, at_spot, behind, picked};
 
 use crate::memory::Memory;
 use lr_base::{LogUpdate, NoMemory, Places, Spot, Stamp};
@@ -146,17 +146,15 @@ pub(crate) fn gathered<'a, O: Drop, L: Places<O>>(
     Ok(found)
 }
 
-/// The first waiting update whose causes are applied.
-pub(crate) fn first_ready<O>(waiting: &[&LogUpdate<O>], val_ts: &Stamp) -> Option<usize>
+/// Whether the causes of a waiting update are applied.
+pub(crate) fn is_one_ready<O>(waiting: &[&LogUpdate<O>], val_ts: &Stamp) -> bool
     requires { AllFit (length val_ts.now) (behind waiting.now) }
-    ensures none { IsNone result → take_ready val_ts.now (behind waiting.now) ≡ None }
-    ensures within { IfSome result (λ at. at < length waiting.now) }
-    ensures first { IfSome result (λ at. TakesAt val_ts.now (behind waiting.now) at) }
+    ensures { result ≡ is_some (take_ready val_ts.now (behind waiting.now)) }
 {
     for at in 0..waiting.len() {
         if waiting[at].prev.le(val_ts) {
-            return Some(at);
+            return true;
         }
     }
-    None
+    false
 }

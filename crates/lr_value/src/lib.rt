@@ -7,6 +7,7 @@ mod memory;
 mod older;
 mod ops;
 mod value;
+mod waiting;
 
 pub use older::Older;
 pub use value::Value;

@@ -9,7 +9,7 @@ ghost use Rattle.lr_value.specs.Executing.{HasApplied};
 ghost use Rattle.lr_value.specs.Remembered.{IsLogOf, IsSettledAt};
 
 use crate::applying::{Draft, apply_all};
-use crate::gathering::{first_ready, gathered};
+use crate::gathering::{gathered, is_one_ready};
 use crate::memory::Memory;
 use crate::older::Older;
 use crate::ops::{Ops, caught_up};
@@ -127,13 +127,13 @@ impl<S: Service> Value<S> {
             return Ok(None);
         }
         let waiting = gathered(self.alloc, log, &self.val_ts, &self.memory)?;
-        if first_ready(waiting.as_slice(), &self.val_ts).is_none() {
+        if !is_one_ready(waiting.as_slice(), &self.val_ts) {
             let memory = Memory::of(self.alloc, received, waiting.as_slice())?;
             self.memory = Some(memory);
             return Ok(None);
         }
         let mut draft = self.draft()?;
-        let left = apply_all(&mut draft, calls, waiting)?;
+        let left = apply_all(self.alloc, &mut draft, calls, waiting)?;
         let memory = Memory::of(self.alloc, received, left.as_slice())?;
         Ok(Some(self.put(draft, memory)))
     }

@@ -1,91 +1,124 @@
-use Rattle.std.proofs.Common.{◌≡◌, ◌<◌, ◌∙◌, List, Some, length, ap, sym, true, refl, None, subst}
-use Rattle.std.specs.Prelude.{slice_get}
-use Rattle.std.specs.Borrow.{Bor}
-use Rattle.lr_base.specs.declared.messages.LogUpdate.{LogUpdate}
-use Rattle.lr_base.specs.Logged.{IsLogged}
-use Rattle.lr_base.specs.Stamps.{stamp_le}
-use Rattle.lr_base.specs.Rules.{is_covered, take_ready}
+use Rattle.std.proofs.Common.{◌≡◌, ◌∙◌, length, inl, sym, refl}
+use Rattle.std.specs.Prelude.{remove}
 use Rattle.lr_value.specs.Applied.{progress_at}
-use Rattle.lr_value.specs.Waiting.{behind, TakesAt}
+use Rattle.lr_value.specs.Waiting.{behind}
 use Rattle.lr_value.proofs.Ended.{blocked-idle, one-covers-at, one-grows-at}
-use Rattle.lr_value.proofs.Facts.{AllFit-logged, AllLogged-behind}
+use Rattle.lr_value.proofs.Facts.{AllFit-logged, AllLogged-remove}
+use Rattle.lr_value.proofs.Held.{if-both, if-ok}
 use Rattle.lr_value.proofs.Left.{left-all, left-but}
-use Rattle.lr_value.proofs.Ready.{apply_ready-step, behind-read, behind-remove, length-behind, TakesAt-same}
+use Rattle.lr_value.proofs.Members.{fits-among, same-members}
+use Rattle.lr_value.proofs.Ready.{apply_ready-step}
 use Rattle.lr_value.proofs.Tables.{goes_further, stays}
+use Rattle.lr_value.proofs.Taking.{held-others, table-next, takes, takes-none}
 use Rattle.lr_value.proofs.applying.apply_all.Goals as goal
 
-pub loop-at-init : goal.loop-at-init
-loop-at-init g c = record {
+pub of-requires-clause-fit : goal.of-requires-clause-fit
+of-requires-clause-fit g c =
+    AllFit-logged g.S.Op.Operation.kind_of _ _ (behind c.args.waiting.items) _ refl refl c.requires.logged
+
+pub loop-update-init : goal.loop-update-init
+loop-update-init g c = record {
+  left = behind c.args.waiting.items;
+  table = c.in_ok-table.ensures.table;
+  whole = c.in_ok-table.ensures.whole;
   same = refl;
   leads = λ from e. e;
-  left = left-all c.args.draft.now.val_ts (behind c.args.waiting.items);
+  of_left = left-all c.args.draft.now.val_ts (behind c.args.waiting.items);
   goes_on = stays (progress_at c.args.draft.now.value c.args.draft.now.val_ts (g.E.Executed.known c.args.calls.now));
   kept = refl;
-  logged = c.requires;
+  logged = c.requires.logged;
 }
-
-pub first_ready-requires : goal.first_ready-requires
-first_ready-requires g c =
-    AllFit-logged g.S.Op.Operation.kind_of _ _ (behind c.loop-at.waiting.items) _ (ap behind c.as_slice.ensures.value)
-    c.loop-at.invariant.goes_on.parts c.loop-at.invariant.logged
 
 pub execute-requires : goal.execute-requires
 execute-requires g c =
-    let within : c.in-Some.at < length c.loop-at.waiting.items =
-    rw (← c.as_slice.ensures.value) c.in-Some.ensures.within in
-    let logged : IsLogged g.S.Op.Operation.kind_of (length c.args.draft.now.val_ts) c.remove-update.result.now =
-    c.loop-at.invariant.logged c.in-Some.at c.remove-update.result.now
-    (behind-read c.loop-at.waiting.items c.in-Some.at c.remove-update.result within c.remove-update.ensures.value) in
-    rw c.loop-at.invariant.goes_on.parts logged
+    let old = c.loop-update.invariant in
+    let whole = rw c.in-Some.ensures.some at old.whole in
+    let table = rw c.in-Some.ensures.some at old.table in
+    let taken = takes c.loop-update.draft.val_ts old.left c.in-Some.update c.take_first.new.self.ready.items
+    c.loop-update.table.blocked.items table whole in
+    rw old.goes_on.parts (old.logged taken.0 c.in-Some.update.now taken.1)
 
-pub loop-at-preserved : goal.loop-at-preserved
-loop-at-preserved g c =
-    let m = g.S.Service.meaning in
-    let old = c.loop-at.invariant in
-    let items = c.loop-at.waiting.items in
-    let first = progress_at c.args.draft.now.value c.args.draft.now.val_ts (g.E.Executed.known c.args.calls.now) in
-    let p = progress_at c.loop-at.draft.value c.loop-at.draft.val_ts (g.E.Executed.known c.loop-at.calls) in
+pub wake-requires-clause-table : goal.wake-requires-clause-table
+wake-requires-clause-table g c =
+    let old = c.loop-update.invariant in
     let next = progress_at c.execute.new.draft.value c.execute.new.draft.val_ts
     (g.E.Executed.known c.execute.new.calls) in
-    let within : c.in-Some.at < length items = rw (← c.as_slice.ensures.value) c.in-Some.ensures.within in
-    let here : slice_get (behind items) c.in-Some.at ≡ Some c.remove-update.result.now =
-    behind-read items c.in-Some.at c.remove-update.result within c.remove-update.ensures.value in
-    let takes : TakesAt c.loop-at.draft.val_ts (behind items) c.in-Some.at =
-    TakesAt-same _ _ (behind items) _ c.in-Some.at refl (ap behind c.as_slice.ensures.value) c.in-Some.ensures.first in
-    let step = apply_ready-step m items c.in-Some.at c.remove-update.result p within c.remove-update.ensures.value takes
-    in
-    let grown : stamp_le c.loop-at.draft.val_ts c.execute.new.draft.val_ts ≡ true =
-    one-grows-at m p next c.remove-update.result.now c.in_ok-execute.ensures.ok in
-    let covered : is_covered c.execute.new.draft.val_ts c.remove-update.result.now ≡ true =
-    one-covers-at m p next c.remove-update.result.now c.in_ok-execute.ensures.ok in
+    let whole = rw c.in-Some.ensures.some at old.whole in
+    let table = rw c.in-Some.ensures.some at old.table in
+    rw c.take_first.ensures.blocked (
+      _,
+      table-next c.loop-update.draft.val_ts old.left c.in-Some.update c.take_first.new.self.ready.items
+          c.loop-update.table.blocked.items table whole g.S.Service.meaning c.loop-update.draft.value
+          (g.E.Executed.known c.loop-update.calls) next c.in_ok-execute.ensures.ok c.in_ok-execute.ensures.goes_on.parts,
+    )
+
+pub wake-requires-clause-within : goal.wake-requires-clause-within
+wake-requires-clause-within g c =
+    let table = rw c.in-Some.ensures.some at c.loop-update.invariant.table in
+    let update = c.in-Some.update in
+    rw c.in_ok-execute.ensures.goes_on.parts (fits-among _ c.loop-update.invariant.left table.fit update.now
+    (table.held update.now (inl (update, inl refl, refl)))).place
+
+pub loop-update-preserved : goal.loop-update-preserved
+loop-update-preserved g c =
+    let m = g.S.Service.meaning in
+    let old = c.loop-update.invariant in
+    let first = progress_at c.args.draft.now.value c.args.draft.now.val_ts (g.E.Executed.known c.args.calls.now) in
+    let p = progress_at c.loop-update.draft.value c.loop-update.draft.val_ts (g.E.Executed.known c.loop-update.calls) in
+    let next = progress_at c.execute.new.draft.value c.execute.new.draft.val_ts
+    (g.E.Executed.known c.execute.new.calls) in
+    let update = c.in-Some.update in
+    let rest = c.take_first.new.self.ready.items in
+    let blocked = c.loop-update.table.blocked.items in
+    let whole = rw c.in-Some.ensures.some at old.whole in
+    let table = rw c.in-Some.ensures.some at old.table in
+    let val_ts = c.loop-update.draft.val_ts in
+    let taken = takes val_ts old.left update rest blocked table whole in
+    let woken = rw c.take_first.ensures.blocked at c.in_ok-wake.ensures.held in
     record {
-      same = rw (c.remove-update.ensures.items, c.in_ok-execute.ensures.ok) (sym step ∙ old.same);
+      left = remove old.left taken.0;
+      table = c.in_ok-wake.ensures.table _ (rw c.take_first.ensures.blocked
+          (table-next val_ts old.left update rest blocked table whole m c.loop-update.draft.value
+          (g.E.Executed.known c.loop-update.calls) next c.in_ok-execute.ensures.ok
+          c.in_ok-execute.ensures.goes_on.parts));
+      whole = λ u among. (woken u).1 ((held-others val_ts old.left update rest blocked table whole u).1 among);
+      same = rw c.in_ok-execute.ensures.ok
+          (sym (apply_ready-step m old.left taken.0 update.now p taken.1 taken.2) ∙ old.same);
       leads = λ from e. c.in_ok-execute.ensures.since from (old.leads from e);
-      left =
-          left-but c.loop-at.draft.val_ts c.execute.new.draft.val_ts (behind c.args.waiting.items) (behind items)
-          (behind c.remove-update.new.self.items) c.in-Some.at c.remove-update.result.now here
-          (ap behind c.remove-update.ensures.items ∙ behind-remove items c.in-Some.at) grown covered old.left;
+      of_left = left-but c.loop-update.draft.val_ts c.execute.new.draft.val_ts (behind c.args.waiting.items) old.left
+          (remove old.left taken.0) taken.0 update.now taken.1 refl
+          (one-grows-at m p next update.now c.in_ok-execute.ensures.ok)
+          (one-covers-at m p next update.now c.in_ok-execute.ensures.ok) old.of_left;
       goes_on = goes_further first p next old.goes_on c.in_ok-execute.ensures.goes_on;
       kept = c.in_ok-execute.ensures.kept ∙ old.kept;
-      logged =
-          AllLogged-behind g.S.Op.Operation.kind_of _ items _ c.in-Some.at c.remove-update.ensures.items old.logged;
+      logged = AllLogged-remove g.S.Op.Operation.kind_of _ old.left taken.0 old.logged;
     }
 
-pub returns-in_err-execute-clause-goes_on : goal.returns-in_err-execute-clause-goes_on
-returns-in_err-execute-clause-goes_on g c =
+pub returns-in_err-wake-clause-goes_on : goal.returns-in_err-wake-clause-goes_on
+returns-in_err-wake-clause-goes_on g c =
     goes_further
     (progress_at c.args.draft.now.value c.args.draft.now.val_ts (g.E.Executed.known c.args.calls.now))
-    (progress_at c.loop-at.draft.value c.loop-at.draft.val_ts (g.E.Executed.known c.loop-at.calls))
+    (progress_at c.loop-update.draft.value c.loop-update.draft.val_ts (g.E.Executed.known c.loop-update.calls))
     (progress_at c.execute.new.draft.value c.execute.new.draft.val_ts (g.E.Executed.known c.execute.new.calls))
-    c.loop-at.invariant.goes_on c.in_err-execute.ensures.goes_on
+    c.loop-update.invariant.goes_on c.in_ok-execute.ensures.goes_on
 
 pub returns-clause-ok : goal.returns-clause-ok
 returns-clause-ok g c =
     let m = g.S.Service.meaning in
-    let items = c.loop-at.waiting.items in
-    let now = progress_at c.loop-at.draft.value c.loop-at.draft.val_ts (g.E.Executed.known c.loop-at.calls) in
-    let none : take_ready c.loop-at.draft.val_ts (behind items) ≡ None =
-    subst (λ (l : List (Bor (LogUpdate _))). take_ready c.loop-at.draft.val_ts (behind l) ≡ None)
-    c.as_slice.ensures.value (c.in_default.ensures.none refl) in
-    rw (length-behind c.args.waiting.items)
-    (sym (blocked-idle m (length items) (behind items) now none) ∙ c.loop-at.invariant.same)
+    let old = c.loop-update.invariant in
+    let now = progress_at c.loop-update.draft.value c.loop-update.draft.val_ts
+    (g.E.Executed.known c.loop-update.calls) in
+    let none = takes-none c.loop-update.draft.val_ts old.left c.loop-update.table.ready.items
+    c.loop-update.table.blocked.items (c.in_default.ensures.none refl) old.table old.whole in
+    if-ok c.rest.result _ (λ x. sym (blocked-idle m (length old.left) old.left now none) ∙ old.same)
+
+pub returns-clause-left : goal.returns-clause-left
+returns-clause-left g c =
+    let old = c.loop-update.invariant in
+    if-both c.rest.result _ _ _ (λ rest order held.
+    let same : old.left ≡ behind rest.items =
+    same-members old.left (behind rest.items) old.table.order order (λ u. (
+      λ among. (held u).1 (old.whole u among),
+      λ among. old.table.held u ((held u).0 among),
+    )) in
+    rw (← same) old.of_left) c.rest.ensures.in_order (rw (c.in_default.ensures.unchanged refl) at c.rest.ensures.held)

@@ -1,6 +1,6 @@
-use Rattle.std.proofs.Common.{◌≡◌, ◌∙◌, Bool, true, true≢false, Option, Some, None, length, ap, sym, refl, subst}
+use Rattle.std.proofs.Common.{◌≡◌, ◌∙◌, false, true≢false, Option, Some, None, length, ap, sym, refl, subst}
 use Rattle.std.proofs.Common.{List, ℕ, not}
-use Rattle.std.specs.Prelude.{IsNone, is_some}
+use Rattle.std.specs.Prelude.{is_some}
 use Rattle.std.specs.Borrow.{Bor}
 use Rattle.lr_base.specs.declared.messages.LogUpdate.{LogUpdate}
 use Rattle.lr_base.specs.Logged.{AllReceived, Fits}
@@ -20,9 +20,9 @@ use Rattle.lr_value.proofs.Settled.{ready-at, ready-grows, settled-after, settle
 use Rattle.lr_value.proofs.value.Value.apply_ready.Goals as goal
 
 -- where it was tested that there is nothing, there is nothing
-none-is : {X : Type 0} (o : Option X) (b : Bool) → is_some o ≡ not b → b ≡ true → IsNone o
-none-is None b tested is = refl
-none-is (Some x) b tested is = absurd (true≢false (tested ∙ ap not is))
+none-is : {X : Type 0} (o : Option X) → is_some o ≡ false → o ≡ None
+none-is None is = refl
+none-is (Some x) is = absurd (true≢false is)
 
 pub returns-then-has_seen-clause-ok : goal.returns-then-has_seen-clause-ok
 returns-then-has_seen-clause-ok g c =
@@ -55,8 +55,8 @@ gathered-requires-clause-memory g c x is =
     let recalls : Recalls c.args.self.now.val_ts updates x = c.requires.remembered x (sym same ∙ is) in
     record { parts = c.self.invariant.1 x is; recalls = rw stamp recalls }
 
-pub first_ready-requires : goal.first_ready-requires
-first_ready-requires g c =
+pub is_one_ready-requires : goal.is_one_ready-requires
+is_one_ready-requires g c =
     let updates = g.L.Places.updates c.args.log.now in
     index-filter (Fits (length c.self.inside.val_ts)) (λ u. not (is_covered c.self.inside.val_ts u)) updates
     (behind c.as_slice.result.now) (ap behind c.as_slice.ensures.value ∙ c.in_ok-waiting.ensures.waiting)
@@ -66,15 +66,15 @@ first_ready-requires g c =
 pub of-requires-clause-in_order : goal.of-requires-clause-in_order
 of-requires-clause-in_order g c =
     subst (λ (l : List (Bor (LogUpdate _))). AreInOrder (λ u. u.spot) (behind l))
-    (sym c.as_slice-then-is_none.ensures.value) c.in_ok-waiting.ensures.in_order
+    (sym c.as_slice-then-not-is_one_ready.ensures.value) c.in_ok-waiting.ensures.in_order
 
 pub of-requires-clause-received : goal.of-requires-clause-received
 of-requires-clause-received g c =
     waiting-received c.self.inside.val_ts c.args.received.now (g.L.Places.updates c.args.log.now) _
-    (ap behind c.as_slice-then-is_none.ensures.value ∙ c.in_ok-waiting.ensures.waiting) c.requires.all_received
+    (ap behind c.as_slice-then-not-is_one_ready.ensures.value ∙ c.in_ok-waiting.ensures.waiting) c.requires.all_received
 
-pub returns-then-is_none-clause-applied : goal.returns-then-is_none-clause-applied
-returns-then-is_none-clause-applied g c =
+pub returns-then-not-is_one_ready-clause-applied : goal.returns-then-not-is_one_ready-clause-applied
+returns-then-not-is_one_ready-clause-applied g c =
     let m = g.S.Service.meaning in
     let updates = g.L.Places.updates c.args.log.now in
     let val_ts = c.self.inside.val_ts in
@@ -83,14 +83,13 @@ returns-then-is_none-clause-applied g c =
     ap behind c.as_slice.ensures.value ∙ c.in_ok-waiting.ensures.waiting in
     let none : take_ready val_ts (waiting val_ts updates) ≡ None =
     subst (λ (l : List (LogUpdate _)). take_ready val_ts l ≡ None) todo
-    (c.first_ready.ensures.none
-    (none-is c.first_ready.result c.is_none.result c.is_none.ensures c.if-is_none.true)) in
+    (none-is (take_ready val_ts _) (sym c.is_one_ready.ensures ∙ c.if-not-is_one_ready.true)) in
     let p = progress_at c.self.inside.value val_ts calls in
     subst (λ (v : Applied _). HasApplied m updates (progress v calls) p) c.self.view_is
     (has-applied m updates p p (sym (blocked-idle m _ (waiting val_ts updates) p none)))
 
-pub returns-then-is_none-clause-settled : goal.returns-then-is_none-clause-settled
-returns-then-is_none-clause-settled g c =
+pub returns-then-not-is_one_ready-clause-settled : goal.returns-then-not-is_one_ready-clause-settled
+returns-then-not-is_one_ready-clause-settled g c =
     let m = g.S.Service.meaning in
     let updates = g.L.Places.updates c.args.log.now in
     let val_ts = c.self.inside.val_ts in
@@ -99,20 +98,19 @@ returns-then-is_none-clause-settled g c =
     ap behind c.as_slice.ensures.value ∙ c.in_ok-waiting.ensures.waiting in
     let none : take_ready val_ts (waiting val_ts updates) ≡ None =
     subst (λ (l : List (LogUpdate _)). take_ready val_ts l ≡ None) todo
-    (c.first_ready.ensures.none
-    (none-is c.first_ready.result c.is_none.result c.is_none.ensures c.if-is_none.true)) in
+    (none-is (take_ready val_ts _) (sym c.is_one_ready.ensures ∙ c.if-not-is_one_ready.true)) in
     let p = progress (record { value = c.self.inside.value; val_ts = val_ts; memory = c.self.inside.memory })
     (g.E.Executed.known c.args.calls.now) in
-    let left : AreLeft val_ts (behind items) (behind c.as_slice-then-is_none.result.now) =
+    let left : AreLeft val_ts (behind items) (behind c.as_slice-then-not-is_one_ready.result.now) =
     subst (λ (l : List (Bor (LogUpdate _))). AreLeft val_ts (behind items) (behind l))
-    (sym c.as_slice-then-is_none.ensures.value) (left-all val_ts (behind items)) in
-    settled-after val_ts val_ts _ updates (behind items) (behind c.as_slice-then-is_none.result.now)
+    (sym c.as_slice-then-not-is_one_ready.ensures.value) (left-all val_ts (behind items)) in
+    settled-after val_ts val_ts _ updates (behind items) (behind c.as_slice-then-not-is_one_ready.result.now)
     c.in_ok-memory.memory c.args.received.now c.in_ok-waiting.ensures.waiting (stamp_le-refl val_ts)
     (none-ready-at m updates p p (sym (blocked-idle m _ (waiting val_ts updates) p none))) left
     c.in_ok-memory.ensures.seen c.in_ok-memory.ensures.waits refl refl
 
-pub apply_all-requires : goal.apply_all-requires
-apply_all-requires g c =
+pub apply_all-requires-clause-logged : goal.apply_all-requires-clause-logged
+apply_all-requires-clause-logged g c =
     let updates = g.L.Places.updates c.args.log.now in
     AllLogged-along g.S.Op.Operation.kind_of _ _ (waiting c.self.inside.val_ts updates) _
     c.in_ok-waiting.ensures.waiting (ap length c.in_ok-draft.ensures.val_ts)
