@@ -1,5 +1,5 @@
 -- Tables that look through all their calls.
-use Rattle.std.proofs.Common.{◌≡◌, Bool, true, false, List, [], ◌∷◌, Option, Some, None, is_some, refl, ◌||◌}
+use Rattle.std.proofs.Common.{◌≡◌, Bool, true, false, List, [], ◌∷◌, Option, Some, None, is_some, refl, sym, ap, ◌∙◌, ◌||◌}
 use Rattle.std.specs.Prelude.{find}
 use Rattle.std.specs.Borrow.{Bor}
 use Rattle.std.specs.Option.{option_copied}
@@ -9,34 +9,41 @@ use Rattle.lr_base.specs.Rules.{same_cid, known_of}
 use Rattle.lr_base.specs.declared.messages.Known.{Known}
 use Rattle.lr_base.specs.declared.names.Cid.{Cid}
 
+-- whether one of the entries is found, first or behind
+found-first : (e : Cid × Known) (entries : List (Cid × Known)) (cid : Cid)
+    → is_some (find (λ x. same_cid cid x.0) (e ∷ entries))
+    ≡ (same_cid cid e.0 || is_some (find (λ x. same_cid cid x.0) entries))
+found-first e entries cid = go (same_cid cid e.0) refl
+  where
+    go : (same : Bool) → same_cid cid e.0 ≡ same → is_some (find (λ x. same_cid cid x.0) (e ∷ entries))
+        ≡ (same_cid cid e.0 || is_some (find (λ x. same_cid cid x.0) entries))
+    go true is = rw is refl
+    go false is = rw is refl
+
 -- a call is known where an entry of it is found, or it was before
-found : (entries calls : List (Cid × Known)) (cid : Cid)
+found-known : (entries calls : List (Cid × Known)) (cid : Cid)
     → (is_some (find (λ e. same_cid cid e.0) entries) || is_some (known_of calls cid))
     ≡ is_some (known_of (enter_calls entries calls) cid)
-found [] calls cid = refl
-found (e ∷ entries) calls cid =
-    go (same_cid cid e.0) refl (is_some (find (λ x. same_cid cid x.0) entries)) refl (found entries (enter_call e calls) cid)
+found-known [] calls cid = refl
+found-known (e ∷ entries) calls cid =
+    let later = is_some (find (λ x. same_cid cid x.0) entries) in
+    ap (λ b. b || is_some (known_of calls cid)) (found-first e entries cid)
+    ∙ turned (same_cid cid e.0) later (is_some (known_of calls cid))
+    ∙ ap (λ b. later || b) (sym (some-entered e calls cid)) ∙ found-known entries (enter_call e calls) cid
   where
-    go : (same : Bool) → same_cid cid e.0 ≡ same → (later : Bool)
-        → is_some (find (λ x. same_cid cid x.0) entries) ≡ later
-        → (is_some (find (λ x. same_cid cid x.0) entries) || is_some (known_of (enter_call e calls) cid))
-        ≡ is_some (known_of (enter_calls (e ∷ entries) calls) cid)
-        → (is_some (find (λ x. same_cid cid x.0) (e ∷ entries)) || is_some (known_of calls cid))
-        ≡ is_some (known_of (enter_calls (e ∷ entries) calls) cid)
-    go true is true there rest = let rest' = rw (there, some-entered e calls cid, is) at rest in rw is rest'
-    go true is false there rest = let rest' = rw (there, some-entered e calls cid, is) at rest in rw is rest'
-    go false is true there rest = let rest' = rw there at rest in rw (is, there) rest'
-    go false is false there rest = let rest' = rw (there, some-entered e calls cid, is) at rest in rw (is, there) rest'
+    turned : (a b c : Bool) → ((a || b) || c) ≡ (b || (a || c))
+    turned true true c = refl
+    turned true false c = refl
+    turned false true c = refl
+    turned false false c = refl
 
 pub found_known : (entries : List (Cid × Known)) (cid : Cid)
     → is_some (find (λ e. same_cid cid e.0) entries) ≡ is_some (known_of (enter_calls entries []) cid)
-found_known entries cid = go (is_some (find (λ e. same_cid cid e.0) entries)) refl (found entries [] cid)
+found_known entries cid = none (is_some (find (λ e. same_cid cid e.0) entries)) ∙ found-known entries [] cid
   where
-    go : (t : Bool) → is_some (find (λ e. same_cid cid e.0) entries) ≡ t
-        → (is_some (find (λ e. same_cid cid e.0) entries) || false) ≡ is_some (known_of (enter_calls entries []) cid)
-        → is_some (find (λ e. same_cid cid e.0) entries) ≡ is_some (known_of (enter_calls entries []) cid)
-    go true is all = let is' : true ≡ is_some (known_of (enter_calls entries []) cid) = rw is at all in rw is is'
-    go false is all = let is' : false ≡ is_some (known_of (enter_calls entries []) cid) = rw is at all in rw is is'
+    none : (b : Bool) → b ≡ (b || false)
+    none true = refl
+    none false = refl
 
 -- what a reference points to is there where the reference is
 pub some-copied : {A : Type 0} (found : Option (Bor A)) → is_some (option_copied found) ≡ is_some found

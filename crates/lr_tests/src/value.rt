@@ -32,7 +32,6 @@ impl Calls {
 }
 
 impl Executed for Calls {
-    ghost use Rattle.std.specs.Prelude.{Unit};
     ghost use Rattle.lr_base.specs.Calls.{enter_calls};
 
     ghost known = { λ calls. enter_calls calls.entries.items [] };
