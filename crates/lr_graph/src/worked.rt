@@ -1,9 +1,12 @@
 //! Laws about small histories: each function does nothing, and its contract is the law.
-ghost use Rattle.std.specs.Prelude.{[], ◌∷◌, codes};
+ghost use Rattle.std.specs.Prelude.{[], ◌∷◌, codes, take};
 ghost use Rattle.svc_tally.specs.Tally.{tally};
+ghost use Rattle.lr_base.specs.declared.events.Event.TheVariants.{Deliver};
 ghost use Rattle.lr_base.specs.declared.events.Outcome.TheVariants.{Got};
+ghost use Rattle.lr_graph.specs.Graph.{below_of, ready};
 ghost use Rattle.lr_graph.specs.Legal.{IsLegal};
-ghost use Rattle.lr_graph.specs.Worked.{add_and_read, first_call, small};
+ghost use Rattle.lr_graph.specs.Promises.{TakesAnswer, TakesDone, facts_of};
+ghost use Rattle.lr_graph.specs.Worked.{add_and_read, first_call, first_spot, second_call, small};
 
 /// A history of an addition, and of a read that sees it, is legal.
 pub fn an_addition_is_read()
@@ -18,4 +21,15 @@ pub fn another_answer_is_not_legal()
 /// Nor is it where the front end prints nothing of the addition's reply.
 pub fn a_reply_that_is_not_taken_is_not_legal()
     ensures { IsLegal tally small (add_and_read [] (codes "3")) → ⊥ }
+{}
+
+/// In the first history the client is told that the addition is done, and then the answer.
+pub fn a_client_is_told()
+    ensures done { TakesDone (take 2 (add_and_read (Got first_call ∷ []) (codes "3")))
+        (record { event = Deliver 2; outcomes = Got first_call ∷ [] }) 0 first_call
+        (below_of (facts_of (take 2 (add_and_read (Got first_call ∷ []) (codes "3")))).accepted first_spot) }
+    ensures answer { TakesAnswer (take 5 (add_and_read (Got first_call ∷ []) (codes "3")))
+        (record { event = Deliver 4; outcomes = Got second_call ∷ [] }) 0 second_call
+        (ready (facts_of (take 5 (add_and_read (Got first_call ∷ []) (codes "3")))).accepted
+        ((facts_of (take 5 (add_and_read (Got first_call ∷ []) (codes "3")))).received 0)) }
 {}

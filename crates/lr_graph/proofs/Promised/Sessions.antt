@@ -1,6 +1,6 @@
 -- What a client was told is in all that comes of its later calls.
 use Rattle.std.proofs.Common.{◌≡◌, ℕ, ◌<◌, ◌≤◌, ◌==◌, Bool, true, cond, false, find, inl, inr, List, [], ◌∷◌, ◌++◌}
-use Rattle.std.proofs.Common.{Option, Some, None, refl, sym, ap, ◌∙◌, subst, arith}
+use Rattle.std.proofs.Common.{Option, Some, None, refl, sym, ap, ◌∙◌, subst, subst₂, arith}
 use Rattle.lr_base.specs.Events.{IsEventOf}
 use Rattle.lr_base.specs.Meaning.{Lawful, Meaning}
 use Rattle.lr_base.specs.Orders.{IsAmong}
@@ -92,23 +92,13 @@ module _ {Value Op : Type 0} (m : Meaning Value Op) (config : Config) (w : Facts
   by_reply n number client from cid names (DoneReply other x) reply g got =
       let sent : SentMessage Op =
       record { number = number; from = from; to = Client client; what = DoneReply other x } in
-      let t = by_test client other x sent refl (w.front client).open_call refl g got in
-      record {
-        call = t.call;
-        opened = t.opened;
-        is = t.is ∙ reply.0;
-        next_is = t.next_is ∙ ap (takes_reply w client) reply.1;
-      }
+      subst₂ (λ c y. IsTaken w client c y (facts_by n (Some sent))) reply.0 reply.1
+      (by_test client other x sent refl (w.front client).open_call refl g got)
   by_reply n number client from cid names (AnswerReply other x) reply g got =
       let sent : SentMessage Op =
       record { number = number; from = from; to = Client client; what = AnswerReply other x } in
-      let t = by_test client other x sent refl (w.front client).open_call refl g got in
-      record {
-        call = t.call;
-        opened = t.opened;
-        is = t.is ∙ reply.0;
-        next_is = t.next_is ∙ ap (takes_reply w client) reply.1;
-      }
+      subst₂ (λ c y. IsTaken w client c y (facts_by n (Some sent))) reply.0 reply.1
+      (by_test client other x sent refl (w.front client).open_call refl g got)
 
   -- a step takes a reply that was sent
   pub record HasTaken (step : Step Op) (client : ℕ) (cid : Cid) (names : SpotSet) (x : SentMessage Op) : Type 0 where
