@@ -77,11 +77,7 @@ module _ {A : Type 0} where
   inserted-among [] (suc at) y x among = among
   inserted-among (z ∷ xs) zero y x among = among
   inserted-among (z ∷ xs) (suc at) y x (inl same) = inr (inl same)
-  inserted-among (z ∷ xs) (suc at) y x (inr among) = out (inserted-among xs at y x among)
-    where
-      out : (x ≡ y) ⊎ IsAmong x xs → (x ≡ y) ⊎ IsAmong x (z ∷ xs)
-      out (inl same) = inl same
-      out (inr other) = inr (inr other)
+  inserted-among (z ∷ xs) (suc at) y x (inr among) = grind (arith, inserted-among xs at y x among)
 
   pub among-inserted : (xs : List A) (at : ℕ) (y x : A) → (x ≡ y) ⊎ IsAmong x xs → IsAmong x (insert xs at y)
   among-inserted [] zero y x either = either
