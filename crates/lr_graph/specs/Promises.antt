@@ -43,8 +43,18 @@ TakesDone before step client cid names = Takes before step client cid (DoneReply
 abbrev pub TakesAnswer : {Op : Type 0} → List (Step Op) → Step Op → ℕ → Cid → SpotSet → Type 0
 TakesAnswer before step client cid names = Takes before step client cid (AnswerReply cid names)
 
+-- the call was accepted at this spot, and these names are what is below the acceptance
+pub record IsDoneAt {Op : Type 0} (accepted : List (Acceptance Op)) (cid : Cid) (spot : Spot)
+    (names : SpotSet) : Type 0 where
+  pub acceptance : Acceptance Op
+  pub among : IsAmong acceptance accepted
+  pub call : acceptance.cid ≡ cid
+  pub at : acceptance.spot ≡ spot
+  pub below : acceptance.below ≡ names
+
 -- the acceptance of this call that a reply with these names stands for is in the set
-pub record HasDone {Op : Type 0} (accepted : List (Acceptance Op)) (cid : Cid) (names set : SpotSet) : Type 0 where
+pub record HasDoneUpdate {Op : Type 0} (accepted : List (Acceptance Op)) (cid : Cid)
+    (names set : SpotSet) : Type 0 where
   pub acceptance : Acceptance Op
   pub among : IsAmong acceptance accepted
   pub call : acceptance.cid ≡ cid

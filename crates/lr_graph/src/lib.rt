@@ -14,8 +14,8 @@ pub use laws::{
 };
 pub use promises::{
     answers_are_read_after_what_is_ready, causes_come_first, clients_read_their_writes,
-    one_round_of_gossip_is_enough, reads_are_monotonic, replicas_converge, writes_are_monotonic,
-    writes_follow_reads,
+    one_round_of_gossip_is_enough, reads_are_monotonic, replicas_converge,
+    replies_stand_for_acceptances, writes_are_monotonic, writes_follow_reads,
 };
 pub use slow::{ready_of, value_of};
 pub use worked::{

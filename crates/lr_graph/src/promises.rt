@@ -4,19 +4,19 @@ ghost use Rattle.lr_base.specs.Events.{IsEventOf};
 ghost use Rattle.lr_base.specs.Orders.{IsAmong};
 ghost use Rattle.lr_base.specs.declared.events.Event.TheVariants.{Deliver};
 ghost use Rattle.lr_base.specs.declared.events.Outcome.TheVariants.{Send};
-ghost use Rattle.lr_base.specs.declared.events.Sent.TheVariants.{Answer};
+ghost use Rattle.lr_base.specs.declared.events.Sent.TheVariants.{Answer, Done};
 ghost use Rattle.lr_base.specs.declared.names.Actor.TheVariants.{Client, Replica};
 ghost use Rattle.lr_graph.specs.Closed.{Each};
 ghost use Rattle.lr_graph.specs.Graph.{Acceptance, ready, value};
 ghost use Rattle.lr_graph.specs.Legal.{IsLegal};
 ghost use Rattle.lr_graph.specs.Orderings.{FollowsCauses, everything, ready_as_made};
-ghost use Rattle.lr_graph.specs.Promises.{◌⊆◌, CallsUpdate, HasDone, HasReceivedAll, HaveReceivedAlike};
-ghost use Rattle.lr_graph.specs.Promises.{IsReadAfter, IsRound, TakesAnswer, TakesDone, facts_of};
+ghost use Rattle.lr_graph.specs.Promises.{◌⊆◌, CallsUpdate, HasDoneUpdate, HasReceivedAll, HaveReceivedAlike};
+ghost use Rattle.lr_graph.specs.Promises.{IsDoneAt, IsReadAfter, IsRound, TakesAnswer, TakesDone, facts_of};
 ghost use Rattle.lr_graph.specs.Sets.{SpotSet};
 ghost use Rattle.lr_graph.specs.Slow.{value_after};
 
 use lr_base::lr_service::Service;
-use lr_base::{Cid, Config, Step};
+use lr_base::{Cid, Config, Spot, Step};
 
 /// What answers say: an answer that a client takes was read after what was ready at its replica when it was sent, and
 /// its text is what the service reads after just that set.
@@ -37,6 +37,17 @@ pub fn answers_are_read_after_what_is_ready<S: Service>()
         → IsReadAfter S.meaning (facts_of (before ++ sending ∷ [])) seen cid text }
 {}
 
+/// What a reply to an update stands for: the acceptance of the call at the spot that the reply names, and its causes.
+pub fn replies_stand_for_acceptances<S: Service>()
+    ensures { (config : Config) (before between later : List (Step S.Op)) (sending done : Step S.Op)
+        (number i client : ℕ) (cid : Cid) (spot : Spot) (names : SpotSet)
+        → Each (λ step. IsEventOf S.meaning config step.event) (before ++ sending ∷ between ++ done ∷ later)
+        → IsLegal S.meaning config (before ++ sending ∷ between ++ done ∷ later)
+        → IsAmong (Send number (Replica i) (Client client) (Done cid spot)) sending.outcomes
+        → done.event ≡ Deliver number → TakesDone (before ++ sending ∷ between) done client cid names
+        → IsDoneAt (facts_of (before ++ sending ∷ [])).accepted cid spot names }
+{}
+
 /// Read your writes: each answer that a client takes was read after each of its updates that it was told are done
 /// before, with all that the reply stands for.
 pub fn clients_read_their_writes<S: Service>()
@@ -53,7 +64,7 @@ pub fn clients_read_their_writes<S: Service>()
         → IsLegal S.meaning config (before ++ done ∷ between ++ answer ∷ later)
         → TakesDone before done client write names
         → TakesAnswer (before ++ done ∷ between) answer client read seen
-        → HasDone (facts_of before).accepted write names seen }
+        → HasDoneUpdate (facts_of before).accepted write names seen }
 {}
 
 /// Monotonic reads: each answer that a client takes was read after all that its earlier answers were read after.
@@ -83,7 +94,7 @@ pub fn writes_are_monotonic<S: Service>()
         → IsLegal S.meaning config (before ++ done ∷ between ++ call ∷ later)
         → TakesDone before done client first names → CallsUpdate call client second
         → IsAmong a (facts_of (before ++ done ∷ between ++ call ∷ later)).accepted → a.cid ≡ second
-        → HasDone (facts_of before).accepted first names a.below }
+        → HasDoneUpdate (facts_of before).accepted first names a.below }
 {}
 
 /// Writes follow reads: wherever an update is accepted, all that its client's answers were read after before it

@@ -39,6 +39,23 @@ module _ {A B : Type 0} (what : A → B) where
       out (inl same) = inl (sym has.2 ∙ ap what same)
       out (inr among) = inr (has.0, among, has.2)
 
+  removed-has : (xs : List A) (at : ℕ) (v : B) → Has what v (remove xs at) → Has what v xs
+  removed-has xs at v has = (has.0, removed-among xs at has.0 has.1, has.2)
+
+  -- one of them has it where the one that is taken out has, or one of the others
+  has-removed : (xs : List A) (at : ℕ) (y : A) → slice_get xs at ≡ Some y → (v : B)
+      → Has what v xs ↔ ((v ≡ what y) ⊎ Has what v (remove xs at))
+  has-removed xs at y is v = (λ has. out has (among-but has.0 xs at y is has.1), into)
+    where
+      out : (has : Has what v xs) → (has.0 ≡ y) ⊎ IsAmong has.0 (remove xs at)
+          → (v ≡ what y) ⊎ Has what v (remove xs at)
+      out has (inl same) = inl (sym has.2 ∙ ap what same)
+      out has (inr among) = inr (has.0, among, has.2)
+
+      into : (v ≡ what y) ⊎ Has what v (remove xs at) → Has what v xs
+      into (inl same) = (y, among-get xs at y is, sym same)
+      into (inr has) = removed-has xs at v has
+
 module _ {Op : Type 0} where
   -- an update that was put in
   pub put-inserted : (old : List (Bor (LogUpdate Op))) (at : ℕ) (y : Bor (LogUpdate Op)) → at ≤ length old
@@ -66,45 +83,19 @@ module _ {Op : Type 0} where
   pub held-put : (u : LogUpdate Op) (ready more : List (Bor (LogUpdate Op))) (blocked : List (Blocked Op))
       → IsPut u ready more → (v : LogUpdate Op)
       → IsHeld v more blocked ↔ ((v ≡ u) ⊎ IsHeld v ready blocked)
-  held-put u ready more blocked put v = (
-    λ held. from held,
-    λ either. into either,
-  )
-    where
-      from : IsHeld v more blocked → (v ≡ u) ⊎ IsHeld v ready blocked
-      from (inr needs) = inr (inr needs)
-      from (inl has) = out (put.from v has)
-        where
-          out : (v ≡ u) ⊎ Has (λ r. r.now) v ready → (v ≡ u) ⊎ IsHeld v ready blocked
-          out (inl same) = inl same
-          out (inr other) = inr (inl other)
-
-      into : (v ≡ u) ⊎ IsHeld v ready blocked → IsHeld v more blocked
-      into (inl same) = inl (put.among v (inl same))
-      into (inr (inl has)) = inl (put.among v (inr has))
-      into (inr (inr needs)) = inr needs
+  held-put u ready more blocked put v = grind (arith, put.from v, put.among v)
 
   -- and where it was put among the others
   pub held-block : (needs : Spot) (y : Bor (LogUpdate Op)) (ready : List (Bor (LogUpdate Op)))
       (blocked : List (Blocked Op)) (at : ℕ) (v : LogUpdate Op)
       → IsHeld v ready (insert blocked at (record { needs = needs; update = y }))
       ↔ ((v ≡ y.now) ⊎ IsHeld v ready blocked)
-  held-block needs y ready blocked at v = (λ held. from held, λ either. into either)
-    where
-      from : IsHeld v ready (insert blocked at (record { needs = needs; update = y }))
-          → (v ≡ y.now) ⊎ IsHeld v ready blocked
-      from (inl has) = inr (inl has)
-      from (inr needs') = out (inserted-has (λ b. b.update.now) blocked at _ v needs')
-        where
-          out : (v ≡ y.now) ⊎ Has (λ b. b.update.now) v blocked → (v ≡ y.now) ⊎ IsHeld v ready blocked
-          out (inl same) = inl same
-          out (inr other) = inr (inr other)
-
-      into : (v ≡ y.now) ⊎ IsHeld v ready blocked
-          → IsHeld v ready (insert blocked at (record { needs = needs; update = y }))
-      into (inl same) = inr (has-inserted (λ b. b.update.now) blocked at _ v (inl same))
-      into (inr (inl has)) = inl has
-      into (inr (inr other)) = inr (has-inserted (λ b. b.update.now) blocked at _ v (inr other))
+  held-block needs y ready blocked at v =
+      grind (
+        arith,
+        inserted-has (λ b. b.update.now) blocked at (record { needs = needs; update = y }) v,
+        has-inserted (λ b. b.update.now) blocked at (record { needs = needs; update = y }) v,
+      )
 
   -- what goes over from the others to the ready ones is held as before
   pub held-over : (b : Blocked Op) (ready more first : List (Bor (LogUpdate Op))) (blocked : List (Blocked Op)) (at : ℕ)
@@ -117,8 +108,13 @@ module _ {Op : Type 0} where
 
   held-before : (ready : List (Bor (LogUpdate Op))) (blocked : List (Blocked Op)) (at : ℕ) (v : LogUpdate Op)
       → IsHeld v ready (remove blocked at) → IsHeld v ready blocked
-  held-before ready blocked at v (inl has) = inl has
-  held-before ready blocked at v (inr has) = inr (has.0, removed-among blocked at has.0 has.1, has.2)
+  held-before ready blocked at v held = grind (arith, removed-has (λ b. b.update.now) blocked at v)
+
+  held-removed : (ready : List (Bor (LogUpdate Op))) (blocked : List (Blocked Op)) (at : ℕ) (b : Blocked Op)
+      → slice_get blocked at ≡ Some b → (v : LogUpdate Op)
+      → IsHeld v ready blocked ↔ ((v ≡ b.update.now) ⊎ IsHeld v ready (remove blocked at))
+  held-removed ready blocked at b is v =
+      let taken = has-removed (λ c. c.update.now) blocked at b is v in grind (arith, taken)
 
   -- where one was taken out and put in again, the same are held
   pub held-taken : (ready : List (Bor (LogUpdate Op))) (blocked : List (Blocked Op)) (at : ℕ) (b : Blocked Op)
@@ -126,20 +122,8 @@ module _ {Op : Type 0} where
       (v : LogUpdate Op) → (IsHeld v more further ↔ ((v ≡ b.update.now) ⊎ IsHeld v ready (remove blocked at)))
       → (IsHeld v ready blocked ↔ IsHeld v first own) → IsHeld v more further ↔ IsHeld v first own
   held-taken ready blocked at b is more first further own v again before =
-      (λ held. before.0 (into (again.0 held)), λ held. again.1 (from (before.1 held)))
-    where
-      into : (v ≡ b.update.now) ⊎ IsHeld v ready (remove blocked at) → IsHeld v ready blocked
-      into (inl same) = inr (b, among-get blocked at b is, sym same)
-      into (inr held) = held-before ready blocked at v held
-
-      from : IsHeld v ready blocked → (v ≡ b.update.now) ⊎ IsHeld v ready (remove blocked at)
-      from (inl has) = inr (inl has)
-      from (inr has) = out (among-but has.0 blocked at b is has.1)
-        where
-          out : (has.0 ≡ b) ⊎ IsAmong has.0 (remove blocked at)
-              → (v ≡ b.update.now) ⊎ IsHeld v ready (remove blocked at)
-          out (inl same) = inl (sym has.2 ∙ ap (λ (x : Blocked Op). x.update.now) same)
-          out (inr among) = inr (inr (has.0, among, has.2))
+      let taken = held-removed ready blocked at b is v in
+      (λ held. before.0 (taken.1 (again.0 held)), λ held. again.1 (taken.0 (before.1 held)))
 
   -- what is filed with one more that stands where it lacks something
   pub filed-inserted : (Lacking : Spot → Type 0) (val_ts : Stamp) (needs : Spot) (y : Bor (LogUpdate Op))
@@ -163,21 +147,7 @@ module _ {Op : Type 0} where
       → IsHeld v (remove ready from) (insert blocked at (record { needs = needs; update = y })) ↔ IsHeld v ready blocked
   held-shelved needs y ready blocked from at is v =
       let stood = held-block needs y (remove ready from) blocked at v in
-      (λ held. out (stood.0 held), λ held. stood.1 (into held))
-    where
-      out : (v ≡ y.now) ⊎ IsHeld v (remove ready from) blocked → IsHeld v ready blocked
-      out (inl same) = inl (y, among-get ready from y is, sym same)
-      out (inr (inl has)) = inl (has.0, removed-among ready from has.0 has.1, has.2)
-      out (inr (inr needs')) = inr needs'
-
-      into : IsHeld v ready blocked → (v ≡ y.now) ⊎ IsHeld v (remove ready from) blocked
-      into (inr needs') = inr (inr needs')
-      into (inl has) = go (among-but has.0 ready from y is has.1)
-        where
-          go : (has.0 ≡ y) ⊎ IsAmong has.0 (remove ready from)
-              → (v ≡ y.now) ⊎ IsHeld v (remove ready from) blocked
-          go (inl same) = inl (sym has.2 ∙ ap (λ (r : Bor (LogUpdate Op)). r.now) same)
-          go (inr among) = inr (inl (has.0, among, has.2))
+      let taken = has-removed (λ r. r.now) ready from y is v in grind (arith, stood, taken)
 
   module _ (Lacking : Spot → Type 0) (val_ts : Stamp) (left : List (LogUpdate Op)) (ready : List (Bor (LogUpdate Op)))
       (blocked : List (Blocked Op)) (table : IsTableBy Lacking val_ts left ready blocked) where

@@ -52,7 +52,7 @@ module _ {A : Type 0} where
       out (inl same) = inl same
       out (inr among) = inr (inr among)
 
-  among-at : (xs : List A) (k : ℕ) → ForSome (slice_get xs k) (λ x. IsAmong x xs)
+  pub among-at : (xs : List A) (k : ℕ) → ForSome (slice_get xs k) (λ x. IsAmong x xs)
   among-at [] k = λ x e. let none : None ≡ Some x = e in cc
   among-at (y ∷ xs) zero = λ x e. let same : y ≡ x = cc in inl (sym same)
   among-at (y ∷ xs) (suc k) = λ x e. inr (among-at xs k x e)

@@ -20,7 +20,7 @@ use Rattle.lr_value.specs.Waiting.{AreOfPlace}
 use Rattle.lr_value.proofs.Gathered.{all-filter, ascends-filter, before-number, both, by-recursion, filter-swap}
 
 -- what holds of each element holds at each index
-all-at : {A : Type 0} (P : A → Type 0) (xs : List A) (k : ℕ) (d : A) → AllByRecursion P xs → k < length xs
+pub all-at : {A : Type 0} (P : A → Type 0) (xs : List A) (k : ℕ) (d : A) → AllByRecursion P xs → k < length xs
     → P (get_or xs k d)
 all-at P [] k d all within = absurd (omega arith)
 all-at P (x ∷ xs) zero d all within = all.0

@@ -1,10 +1,8 @@
 -- Where something goes in a list that is sorted by spots.
-use Rattle.std.proofs.Common.{◌≡◌, ◌≢◌, ◌<◌, ◌≤◌, ℕ, zero, suc, Bool, true, false, not, ◌⊎◌, inl, inr, List, [], ◌∷◌}
-use Rattle.std.proofs.Common.{length, get_or, take, drop, refl, sym, ap, ◌∙◌, Some, None, arith, cond, true≢false}
-use Rattle.std.proofs.Common.{eq-eqb, eqb-true, leb-false}
-use Rattle.std.specs.Prelude.{◌==◌, ◌&&◌, filter, insert, nat_le, remove, slice_get}
+use Rattle.std.proofs.Common.{◌≡◌, ◌≢◌, ◌≤◌, ℕ, zero, suc, Bool, true, false, not, ◌⊎◌, inl, inr, List, [], ◌∷◌}
+use Rattle.std.proofs.Common.{length, get_or, take, drop, refl, sym, ap, ◌∙◌, Some, None, arith, cond}
+use Rattle.std.specs.Prelude.{◌==◌, ◌&&◌, filter, insert, remove, slice_get}
 use Rattle.std.proofs.lemmas.Bool.Decides.{nat_tests}
-use Rattle.std.proofs.lemmas.Bool.{lt-leb}
 use Rattle.std.specs.List.{AllByRecursion, AllWithin}
 use Rattle.std.specs.List.Sorted.{IsPartitionedBy, IsPartitionPoint}
 use Rattle.lr_base.specs.Insertion.{Ascends}
@@ -12,6 +10,10 @@ use Rattle.lr_base.specs.Orders.{IsAmong}
 use Rattle.lr_base.specs.Rules.{is_before}
 use Rattle.lr_base.specs.declared.names.Spot.{Spot}
 use Rattle.lr_base.specs.Stamps.{Stamp, part}
+use Rattle.lr_value.proofs.Left.{among-at}
+use Rattle.lr_value.proofs.Numbered.{all-at}
+use Rattle.std.proofs.lemmas.Option.{unwrap_or-slice_get}
+use Rattle.std.specs.Prelude.{unwrap_or}
 use Rattle.lr_value.specs.Table.{IsPlaceFor, Lacks, is_met}
 
 pub before-trans : (a b c : Spot) → is_before a b ≡ true → is_before b c ≡ true → is_before a c ≡ true
@@ -51,29 +53,12 @@ met-later place number a b high own later = grind (arith, nat_tests)
 -- what a stamp lacks isn't met there
 pub met-lacking : (val_ts : Stamp) (place : ℕ) (needs : Spot) → Lacks val_ts needs
     → is_met place (part val_ts place) needs ≡ false
-met-lacking val_ts place needs lacks = go (needs.place == place) refl
-  where
-    go : (s : Bool) → (needs.place == place) ≡ s → is_met place (part val_ts place) needs ≡ false
-    go false is = rw is refl
-    go true is =
-        let same : needs.place ≡ place = eqb-true needs.place place is in
-        let less : part val_ts place < needs.number = rw (← same) lacks in
-        let over : nat_le needs.number (part val_ts place) ≡ false = lt-leb needs.number (part val_ts place) less in
-        rw (is, over) refl
+met-lacking val_ts place needs lacks = grind (arith, nat_tests)
 
 -- where what is needed elsewhere is lacking, and what is needed here isn't met, it is lacking
 pub lacks-there : (val_ts : Stamp) (raised : ℕ) (needs : Spot) → (needs.place ≢ raised → Lacks val_ts needs)
     → is_met raised (part val_ts raised) needs ≡ false → Lacks val_ts needs
-lacks-there val_ts raised needs elsewhere unmet = go (needs.place == raised) refl
-  where
-    go : (s : Bool) → (needs.place == raised) ≡ s → Lacks val_ts needs
-    go false is = elsewhere (λ same.
-        let there : (needs.place == raised) ≡ true = eq-eqb needs.place raised same in
-        true≢false (sym there ∙ is))
-    go true is =
-        let over : nat_le needs.number (part val_ts raised) ≡ false = rw is at unmet in
-        let same : needs.place ≡ raised = eqb-true needs.place raised is in
-        rw same (leb-false needs.number (part val_ts raised) over)
+lacks-there val_ts raised needs elsewhere unmet = grind (arith, nat_tests)
 
 module _ {A : Type 0} where
   each-into : (P Q : A → Type 0) (xs : List A) → ((x : A) → P x → Q x) → AllByRecursion P xs → AllByRecursion Q xs
@@ -92,11 +77,7 @@ module _ {A : Type 0} where
   inserted-among [] (suc at) y x among = among
   inserted-among (z ∷ xs) zero y x among = among
   inserted-among (z ∷ xs) (suc at) y x (inl same) = inr (inl same)
-  inserted-among (z ∷ xs) (suc at) y x (inr among) = out (inserted-among xs at y x among)
-    where
-      out : (x ≡ y) ⊎ IsAmong x xs → (x ≡ y) ⊎ IsAmong x (z ∷ xs)
-      out (inl same) = inl same
-      out (inr other) = inr (inr other)
+  inserted-among (z ∷ xs) (suc at) y x (inr among) = grind (arith, inserted-among xs at y x among)
 
   pub among-inserted : (xs : List A) (at : ℕ) (y x : A) → (x ≡ y) ⊎ IsAmong x xs → IsAmong x (insert xs at y)
   among-inserted [] zero y x either = either
@@ -187,17 +168,12 @@ module _ {A : Type 0} where
   )
   within-drop P (x ∷ xs) (suc i) all = within-drop P xs i (λ k d low high. all (suc k) d (omega arith) (omega arith))
 
-  each-get : (P : A → Type 0) (xs : List A) (k : ℕ) (d : A) → k < length xs → AllByRecursion P xs → P (get_or xs k d)
-  each-get P [] k d within all = absurd (omega arith)
-  each-get P (x ∷ xs) zero d within all = all.0
-  each-get P (x ∷ xs) (suc k) d within all = each-get P xs k d (omega arith) all.1
-
   parted : (R : A → A → Bool) (p : A → Bool) → ((x y : A) → R x y ≡ true → p y ≡ true → p x ≡ true) → (xs : List A)
       → Ascends R xs → IsPartitionedBy p xs
   parted R p down [] up i j d le within is = absurd (omega arith)
   parted R p down (x ∷ xs) up zero zero d le within is = is
   parted R p down (x ∷ xs) up zero (suc j) d le within is =
-      down x (get_or xs j d) (each-get (λ y. R x y ≡ true) xs j d (omega arith) up.0) is
+      down x (get_or xs j d) (all-at (λ y. R x y ≡ true) xs j d up.0 (omega arith)) is
   parted R p down (x ∷ xs) up (suc i) zero d le within is = absurd (omega arith)
   parted R p down (x ∷ xs) up (suc i) (suc j) d le within is =
       parted R p down xs up.1 i j d (omega arith) (omega arith) is
@@ -265,11 +241,7 @@ module _ {A : Type 0} where
         (met-before place number (spot_of x) low.0, none-met place number xs at low.1 high up.1 first)
 
 pub among-get : {A : Type 0} (xs : List A) (k : ℕ) (x : A) → slice_get xs k ≡ Some x → IsAmong x xs
-among-get [] k x is = let none : None ≡ Some x = is in cc
-among-get (y ∷ xs) zero x is = inl cc
-among-get (y ∷ xs) (suc k) x is = inr (among-get xs k x is)
+among-get xs k x is = among-at xs k x is
 
 pub get-at : {A : Type 0} (xs : List A) (k : ℕ) (x d : A) → slice_get xs k ≡ Some x → get_or xs k d ≡ x
-get-at [] k x d is = let none : None ≡ Some x = is in cc
-get-at (y ∷ xs) zero x d is = cc
-get-at (y ∷ xs) (suc k) x d is = get-at xs k x d is
+get-at xs k x d is = sym (unwrap_or-slice_get xs k d) ∙ ap (λ o. unwrap_or o d) is

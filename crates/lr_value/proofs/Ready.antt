@@ -5,7 +5,6 @@ use Rattle.std.specs.Prelude.{Option, filter, is_some, remove, slice_get}
 use Rattle.std.specs.Borrow.{Bor}
 use Rattle.std.proofs.Math.Nat.{eq-or-lt_of_le}
 use Rattle.std.proofs.lemmas.Option.{slice_get_read, slice_get_within}
-use Rattle.std.proofs.lemmas.List.{length-map}
 use Rattle.std.proofs.lemmas.List.Edits.{length-remove}
 use Rattle.lr_base.specs.declared.messages.LogUpdate.{LogUpdate}
 use Rattle.lr_base.specs.Meaning.{Meaning}
@@ -25,10 +24,6 @@ module _ {Op : Type 0} where
       → u ≡ get_or references k u → slice_get (behind references) k ≡ Some u.now
   behind-read references k u within is =
       slice_get-behind references k u (slice_get_read references (length references) k u refl within is)
-
-  -- as many updates are behind references as there are references
-  pub length-behind : (references : List (Bor (LogUpdate Op))) → length (behind references) ≡ length references
-  length-behind references = length-map references (λ u. u.now)
 
   -- where none of the causes is applied, none is taken
   pub take_ready-none : (val_ts : List ℕ) (todo : List (LogUpdate Op))

@@ -135,7 +135,7 @@ impl<'a, O: Drop> Table<'a, O> {
     }
 
     // Puts an update among those whose causes are applied, unless it is there.
-    fn free(&mut self, update: &'a LogUpdate<O>) -> Result<(), NoMemory>
+    fn make_ready(&mut self, update: &'a LogUpdate<O>) -> Result<(), NoMemory>
         requires in_order { AreInOrder (λ r. r.now.spot) self.old.ready.items }
         requires one { (r : _) → IsAmong r self.old.ready.items → r.now.spot ≡ update.now.spot → r.now ≡ update.now }
         ensures blocked { self.new.blocked ≡ self.old.blocked }
@@ -177,7 +177,7 @@ impl<'a, O: Drop> Table<'a, O> {
             ≤ count_met place (part val_ts.now place) self.old.blocked.items) }
     {
         match first_lack(&update.prev, val_ts) {
-            None => self.free(update),
+            None => self.make_ready(update),
             Some(needs) => self.block(needs, update),
         }
     }
@@ -222,7 +222,7 @@ impl<'a, O: Drop> Table<'a, O> {
             ↔ IsHeld u self.entry.ready.items self.entry.blocked.items) }
     {
         while let Some(met) = self.blocked.pop() {
-            self.free(met.update)?;
+            self.make_ready(met.update)?;
         }
         Ok(self.ready)
     }

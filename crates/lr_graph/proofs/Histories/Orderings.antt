@@ -28,7 +28,7 @@ use Rattle.lr_graph.proofs.Sets.Values.{holds-has_call}
 
 -- ---- lists with one element more
 
-pub among-parts : {A : Type 0} (x : A) (xs ys : List A) → IsAmong x (xs ++ ys) → IsAmong x xs ⊎ IsAmong x ys
+among-parts : {A : Type 0} (x : A) (xs ys : List A) → IsAmong x (xs ++ ys) → IsAmong x xs ⊎ IsAmong x ys
 among-parts x [] ys member = inr member
 among-parts x (y ∷ xs) ys (inl e) = inl (inl e)
 among-parts x (y ∷ xs) ys (inr member) = elim (among-parts x xs ys member) [ inl first ↦ inl (inr first) | inr second ↦ inr second ]

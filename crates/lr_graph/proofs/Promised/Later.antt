@@ -17,7 +17,7 @@ use Rattle.lr_graph.specs.After.{after}
 use Rattle.lr_graph.specs.Central.{facts_after}
 use Rattle.lr_graph.specs.Graph.{Acceptance, Carried, DoneReply, Facts, LabelledCall, AnswerReply, first_facts}
 use Rattle.lr_graph.specs.Legal.{IsLegal, call_lines, next_number, outcomes_of}
-use Rattle.lr_graph.specs.Promises.{◌⊆◌, CallsUpdate, HasDone, Takes, facts_of}
+use Rattle.lr_graph.specs.Promises.{◌⊆◌, CallsUpdate, HasDoneUpdate, Takes, facts_of}
 use Rattle.lr_graph.specs.Runs.{RunState, stepped}
 use Rattle.lr_graph.specs.Sets.{SpotSet}
 use Rattle.lr_graph.proofs.Lists.Members.{each-at}
@@ -155,7 +155,7 @@ module _ {Value Op : Type 0} (m : Meaning Value Op) (kind_of : Op → Kind) (law
 
     -- the update that was done is in each set that has what the reply stands for
     pub done-there : (set : SpotSet) → reply ≡ DoneReply first names → names ⊆ set
-        → HasDone (facts_of before).accepted first names set
+        → HasDoneUpdate (facts_of before).accepted first names set
     done-there set is_done within =
         let u = facts_of before in
         let fit = each-parts _ before (one ∷ between) first_fits.0 in

@@ -1,6 +1,6 @@
--- What an answer says, where it is sent and where it is taken.
-use Rattle.std.proofs.Common.{◌≡◌, ◌^◌, ℕ, suc, ◌==◌, Bool, true, false, cond, find, ◌⊎◌, inl, inr, List, []}
-use Rattle.std.proofs.Common.{◌∷◌, ◌++◌, Option, Some, None, refl, sym, ap, ◌∙◌, subst, arith}
+-- What answers and replies to updates say, where they are sent and where they are taken.
+use Rattle.std.proofs.Common.{◌≡◌, ◌^◌, ℕ, suc, ◌==◌, Bool, true, false, cond, find, inl, inr, List, [], ◌∷◌, ◌++◌}
+use Rattle.std.proofs.Common.{Option, Some, None, refl, sym, ap, ◌∙◌, subst, arith}
 use Rattle.lr_base.specs.Kinds.{is_query}
 use Rattle.lr_base.specs.Meaning.{Lawful, Meaning}
 use Rattle.lr_base.specs.Orders.{IsAmong}
@@ -9,7 +9,7 @@ use Rattle.lr_base.specs.declared.events.Event.{Event}
 use Rattle.lr_base.specs.declared.events.Event.TheVariants.{Call, Deliver, Gossip as GossipEvent, Show}
 use Rattle.lr_base.specs.declared.events.Outcome.{Outcome}
 use Rattle.lr_base.specs.declared.events.Outcome.TheVariants.{Send, Got, Stale}
-use Rattle.lr_base.specs.declared.events.Sent.TheVariants.{Answer, Query, Update}
+use Rattle.lr_base.specs.declared.events.Sent.TheVariants.{Answer, Done, Query, Update}
 use Rattle.lr_base.specs.declared.events.Step.{Step}
 use Rattle.lr_base.specs.declared.lr_service.Kind.{Kind}
 use Rattle.lr_base.specs.declared.names.Actor.{Actor}
@@ -17,58 +17,63 @@ use Rattle.lr_base.specs.declared.names.Actor.TheVariants.{Client, Replica}
 use Rattle.lr_base.specs.declared.names.Cid.{Cid}
 use Rattle.lr_base.specs.declared.names.Config.{Config}
 use Rattle.lr_base.specs.declared.names.Spot.{Spot}
-use Rattle.lr_graph.specs.After.{after, delivery_of, lines_read, next_call, step_ended, stepping}
+use Rattle.lr_graph.specs.After.{accepts, after, causes_of, delivery_of, lines_read, next_call, step_ended, stepping}
 use Rattle.lr_graph.specs.Central.{facts_after}
 use Rattle.lr_graph.specs.Closed.{Each}
 use Rattle.lr_graph.specs.Graph.{Acceptance, Carried, Facts, LabelledCall, SentMessage, UpdateCopy, QueryCopy}
-use Rattle.lr_graph.specs.Graph.{DoneReply}
-use Rattle.lr_graph.specs.Graph.{AnswerReply}
-use Rattle.lr_graph.specs.Graph.{GossipOf, Blank, first_facts, is_within, ready, value}
+use Rattle.lr_graph.specs.Graph.{DoneReply, AnswerReply, GossipOf, Blank, below_of, first_facts, is_within, kept_spot}
+use Rattle.lr_graph.specs.Graph.{made, ready, value}
 use Rattle.lr_graph.specs.Legal.{IsLegal, accept_lines, answer_line, answers, answers_at, call_lines, delivery_lines}
-use Rattle.lr_graph.specs.Legal.{message_lines, next_number, outcomes_of, own_lines, query_lines, reply_line}
-use Rattle.lr_graph.specs.Legal.{update_lines}
-use Rattle.lr_graph.specs.Promises.{IsReadAfter, TakesAnswer, facts_of}
-use Rattle.lr_graph.specs.Runs.{stepped}
-use Rattle.lr_graph.specs.Sets.{SpotSet}
-use Rattle.lr_graph.proofs.Histories.Orderings.{among-parts}
-use Rattle.lr_graph.proofs.Lists.Members.{among-right, each-at, each-map, find-some}
+use Rattle.lr_graph.specs.Legal.{done_line, message_lines, next_number, outcomes_of, own_lines, query_lines}
+use Rattle.lr_graph.specs.Legal.{reply_line, taken_at, update_lines}
+use Rattle.lr_graph.specs.Promises.{IsDoneAt, IsReadAfter, Takes, facts_of}
+use Rattle.lr_graph.specs.Runs.{RunState, stepped}
+use Rattle.lr_graph.specs.Sets.{SpotSet, only, ◌∪◌}
+use Rattle.lr_graph.proofs.Lists.Members.{among-right, each-append, each-at, each-map, find-some}
+use Rattle.lr_graph.proofs.Lists.Tests.{same_spot-self}
 use Rattle.lr_graph.proofs.Promised.Changes.{Keeps, WasSent, found-among}
-use Rattle.lr_graph.proofs.Promised.Points.{Fits, any-point, each-parts, facts-parts, later-point, legal-parts}
-use Rattle.lr_graph.proofs.Promised.Points.{fresh, step-point}
-use Rattle.lr_graph.proofs.Promised.Walk.{after-parts, answers-send, own-next, own_read}
+use Rattle.lr_graph.proofs.Promised.Points.{Fits, IsPoint, any-point, each-parts, facts-parts, fresh, later-point}
+use Rattle.lr_graph.proofs.Promised.Points.{legal-parts, step-point}
+use Rattle.lr_graph.proofs.Promised.Walk.{after-parts, answers-send, own-next, own_read, sent-there}
+use Rattle.lr_graph.proofs.Promised.Walk.{taken-again}
+use Rattle.lr_graph.proofs.Related.Relation.{IsSame, IsThere}
+use Rattle.lr_graph.proofs.Replicas.Own.{below_of-is}
 
-module _ {Value Op : Type 0} (m : Meaning Value Op) (n i client : ℕ) (cid : Cid) (text : List ℕ) where
-  -- the line that says the answer
-  abbrev pub line : Outcome
-  line = Send n (Replica i) (Client client) (Answer cid text)
+-- ---- what lines say
 
-  -- the text is what is read, for a query of which a copy was sent, after what is ready; and the answer was sent
-  pub record IsSaid (l : List (Acceptance Op)) (r : SpotSet) (messages : List (SentMessage Op)) : Type 0 where
+module _ {Value Op : Type 0} (m : Meaning Value Op) (l : List (Acceptance Op)) (received : ℕ → SpotSet)
+    (messages : List (SentMessage Op)) (n : ℕ) (from to : Actor) (cid : Cid) where
+  -- a message of this number carries this
+  abbrev pub Carries : Carried Op → Type 0
+  Carries what = IsAmong (record { number = n; from = from; to = to; what = what }) messages
+
+  -- the text is what is read, for a query of which a copy was sent, after what is ready; and so the message says
+  pub record IsAnswerSaid (text : List ℕ) : Type 0 where
+    pub i : ℕ
+    pub replica : from ≡ Replica i
     pub call : LabelledCall Op
     pub asked : WasSent messages (QueryCopy call)
     pub name : call.cid ≡ cid
-    pub text_is : text ≡ m.read (value m l (ready l r)) call.op
-    pub answer : SentMessage Op
-    pub among : IsAmong answer messages
-    pub number : answer.number ≡ n
-    pub what : answer.what ≡ AnswerReply cid (ready l r)
+    pub text_is : text ≡ m.read (value m l (ready l (received i))) call.op
+    pub carries : Carries (AnswerReply cid (ready l (received i)))
 
-  abbrev pub IsSpoken : Facts Op → Type 0
-  IsSpoken w = IsSaid w.accepted (w.received i) w.messages
+  -- the call was accepted at the spot; and the message says what is below this acceptance
+  pub record IsDoneSaid (spot : Spot) : Type 0 where
+    pub acceptance : Acceptance Op
+    pub there : IsAmong acceptance l
+    pub call : acceptance.cid ≡ cid
+    pub at : acceptance.spot ≡ spot
+    pub carries : Carries (DoneReply cid acceptance.below)
 
-  -- more is sent
-  spoken-more : (w : Facts Op) (new : List (SentMessage Op)) → IsSpoken w
-      → IsSpoken (record w { messages = new ++ w.messages })
-  spoken-more w new s = record {
-    call = s.call;
-    asked = (s.asked.0, among-right s.asked.0 new w.messages s.asked.1, s.asked.2);
-    name = s.name;
-    text_is = s.text_is;
-    answer = s.answer;
-    among = among-right s.answer new w.messages s.among;
-    number = s.number;
-    what = s.what;
-  }
+module _ {Value Op : Type 0} (m : Meaning Value Op) where
+  -- what answers and replies to updates say holds
+  abbrev pub IsSaid : List (Acceptance Op) → (ℕ → SpotSet) → List (SentMessage Op) → Outcome → Type 0
+  IsSaid l r messages (Send n from to (Answer cid text)) = IsAnswerSaid m l r messages n from to cid text
+  IsSaid l r messages (Send n from to (Done cid spot)) = IsDoneSaid m l r messages n from to cid spot
+  IsSaid l r messages _ = Unit {0}
+
+  abbrev pub AllSaid : Facts Op → List Outcome → Type 0
+  AllSaid u lines = Each (IsSaid u.accepted u.received u.messages) lines
 
   -- the answer to a call that a replica sends
   abbrev reply_to : Facts Op → ℕ → ℕ → LabelledCall Op → SentMessage Op
@@ -79,238 +84,279 @@ module _ {Value Op : Type 0} (m : Meaning Value Op) (n i client : ℕ) (cid : Ci
     what = AnswerReply call.cid (ready w.accepted (w.received j));
   }
 
-  -- a line of an answer says it
-  line-spoken : (w : Facts Op) (j number : ℕ) (call : LabelledCall Op) (messages : List (SentMessage Op))
-      → WasSent messages (QueryCopy call) → line ≡ answer_line m w number j call
-      → IsSpoken (record w { messages = reply_to w j number call ∷ messages })
-  line-spoken w j number call messages asked e =
-      let replica : i ≡ j = cc in
-      let named : call.cid ≡ cid = cc in
-      let numbered : number ≡ n = cc in
-      let said : text ≡ m.read (value m w.accepted (ready w.accepted (w.received j))) call.op = cc in
-      let read = λ (k : ℕ). m.read (value m w.accepted (ready w.accepted (w.received k))) call.op in
-      record {
-        call = call;
-        asked = (asked.0, inr asked.1, asked.2);
-        name = named;
-        text_is = said ∙ ap read (sym replica);
-        answer = reply_to w j number call;
-        among = inl refl;
-        number = numbered;
-        what = λ k. AnswerReply (named k) (ready w.accepted (w.received (sym replica k)));
-      }
+  answer-said : (w : Facts Op) (j number : ℕ) (call : LabelledCall Op) (messages new : List (SentMessage Op))
+      → WasSent messages (QueryCopy call)
+      → IsSaid w.accepted w.received (new ++ reply_to w j number call ∷ messages) (answer_line m w number j call)
+  answer-said w j number call messages new asked = record {
+    i = j;
+    replica = refl;
+    call = call;
+    asked = (asked.0, among-right asked.0 new (reply_to w j number call ∷ messages) (inr asked.1), asked.2);
+    name = refl;
+    text_is = refl;
+    carries = among-right (reply_to w j number call) new (reply_to w j number call ∷ messages) (inl refl);
+  }
 
+  -- held queries
   module _ (w : Facts Op) (j : ℕ) (x : Option (SentMessage Op)) where
-    -- the facts after lines that are read behind these messages
     abbrev read : List (SentMessage Op) → List Outcome → Facts Op
     read messages lines = lines_read x (record w { messages = messages }) lines
 
-    -- held queries
-    answers-spoken : (number : ℕ) (calls : List (LabelledCall Op)) (messages : List (SentMessage Op))
-        → Each (λ call. WasSent messages (QueryCopy call)) calls → IsAmong line (answers m w number j calls)
-        → IsSpoken (read messages (answers m w number j calls))
-    answers-spoken number [] messages asked among = absurd among
-    answers-spoken number (call ∷ calls) messages asked among =
-        by_test (is_within w.accepted call.label (w.received j)) among (answers-spoken (suc number) calls
+    answers-said : (number : ℕ) (calls : List (LabelledCall Op)) (messages : List (SentMessage Op))
+        → Each (λ call. WasSent messages (QueryCopy call)) calls
+        → AllSaid (read messages (answers m w number j calls)) (answers m w number j calls)
+    answers-said number [] messages asked = tt
+    answers-said number (call ∷ calls) messages asked =
+        by_test (is_within w.accepted call.label (w.received j)) (answers-said (suc number) calls
         (reply_to w j number call ∷ messages) (each-map _ _ calls (λ c s. (s.0, inr s.1, s.2)) asked.1))
-        (answers-spoken number calls messages asked.1)
+        (answers-said number calls messages asked.1)
       where
-        by_test : (t : Bool)
-            → IsAmong line (cond t (answer_line m w number j call ∷ answers m w (suc number) j calls)
-            (answers m w number j calls))
-            → (IsAmong line (answers m w (suc number) j calls)
-            → IsSpoken (read (reply_to w j number call ∷ messages) (answers m w (suc number) j calls)))
-            → (IsAmong line (answers m w number j calls) → IsSpoken (read messages (answers m w number j calls)))
-            → IsSpoken (read messages (cond t (answer_line m w number j call ∷ answers m w (suc number) j calls)
-            (answers m w number j calls)))
-        by_test false among said none = none among
-        by_test true (inr among) said none = said among
-        by_test true (inl e) said none =
-            let one = line-spoken w j number call messages asked.0 e in
+        more : List Outcome
+        more = answers m w (suc number) j calls
+
+        by_test : (t : Bool) → AllSaid (read (reply_to w j number call ∷ messages) more) more
+            → AllSaid (read messages (answers m w number j calls)) (answers m w number j calls)
+            → AllSaid (read messages (cond t (answer_line m w number j call ∷ more) (answers m w number j calls)))
+            (cond t (answer_line m w number j call ∷ more) (answers m w number j calls))
+        by_test false said none = none
+        by_test true said none =
             let rest = answers-send m w j x (suc number) calls (reply_to w j number call ∷ messages) in
-            subst IsSpoken (sym rest.1)
-            (spoken-more (record w { messages = reply_to w j number call ∷ messages }) rest.0 one)
+            let one = answer-said w j number call messages rest.0 asked.0 in (
+              subst (λ (u : Facts Op). IsSaid u.accepted u.received u.messages (answer_line m w number j call))
+                  (sym rest.1) one,
+              said,
+            )
 
-  -- ---- no other line is an answer
-
-  abbrev IsOther : Outcome → Type 0
-  IsOther (Send number from to (Answer c t)) = ⊥
-  IsOther _ = Unit {0}
-
-  no-answer : (lines : List Outcome) → Each IsOther lines → IsAmong line lines → ⊥
-  no-answer lines others among = each-at IsOther line lines others among
-
-  update-other : (config : Config) (w : Facts Op) (j : ℕ) (c : Cid) (o : Option Spot)
-      → Each IsOther (update_lines config w j c o)
-  update-other config w j c (Some spot) = (tt, (tt, tt))
-  update-other config w j c None = by_test _ _
-    where
-      by_test : (room left : Bool) → Each IsOther (accept_lines w j c room left)
-      by_test false left = (tt, tt)
-      by_test true false = (tt, tt)
-      by_test true true = (tt, (tt, tt))
-
-  no-reply : (o : Option (LabelledCall Op)) (c : Cid) → IsAmong line (reply_line o c ∷ []) → ⊥
-  no-reply None c among = no-answer (Stale c ∷ []) (tt, tt) among
-  no-reply (Some call) c among = by_test (same_cid call.cid c) among
-    where
-      by_test : (t : Bool) → IsAmong line (cond t (Got c) (Stale c) ∷ []) → ⊥
-      by_test true among = no-answer (Got c ∷ []) (tt, tt) among
-      by_test false among = no-answer (Stale c ∷ []) (tt, tt) among
-
-  call-other : (w : Facts Op) (f replica clock : ℕ) (op : Op) (o : Option (LabelledCall Op)) (worn : Bool)
-      → Each IsOther (call_lines m w f replica clock op o worn)
-  call-other w f replica clock op (Some call) worn = (tt, tt)
-  call-other w f replica clock op None true = (tt, tt)
-  call-other w f replica clock op None false = by_kind (is_query (m.kind op))
-    where
-      by_kind : (t : Bool)
-          → Each IsOther
-          (Send (next_number w) (Client f) (Replica replica)
-          (cond t (Query (next_call f (w.front f) op).cid) (Update (next_call f (w.front f) op).cid clock)) ∷ [])
-      by_kind true = (tt, tt)
-      by_kind false = (tt, tt)
-
-  module _ (config : Config) (w : Facts Op) (number : ℕ) (from : Actor) where
-    -- the facts after the lines of a delivery
-    abbrev came : Actor → Carried Op → List Outcome → Facts Op
-    came to what lines = lines_read (Some (record { number = number; from = from; to = to; what = what })) w lines
-
-    -- a query that is answered at once
-    query-spoken : (j : ℕ) (call : LabelledCall Op) (within room : Bool) → WasSent w.messages (QueryCopy call)
-        → IsAmong line (query_lines m w j call within room)
-        → IsSpoken (came (Replica j) (QueryCopy call) (query_lines m w j call within room))
-    query-spoken j call true room asked (inl e) = line-spoken w j (next_number w) call w.messages asked e
-    query-spoken j call true room asked (inr none) = absurd none
-    query-spoken j call false true asked among =
-        absurd (no-answer (query_lines m w j call false true) (tt, tt) among)
-    query-spoken j call false false asked among =
-        absurd (no-answer (query_lines m w j call false false) (tt, tt) among)
-
-    message-spoken : (to : Actor) (what : Carried Op) → WasSent w.messages what
-        → IsAmong line (message_lines m config w to what) → IsSpoken (came to what (message_lines m config w to what))
-    message-spoken (Replica j) (UpdateCopy call time) asked among =
-        absurd (no-answer (message_lines m config w (Replica j) (UpdateCopy call time))
-        (update-other config w j call.cid _) among)
-    message-spoken (Replica j) (QueryCopy call) asked among = query-spoken j call _ _ asked among
-    message-spoken (Replica j) (DoneReply c names) asked among = absurd among
-    message-spoken (Replica j) (AnswerReply c names) asked among = absurd among
-    message-spoken (Replica j) (GossipOf names) asked among =
-        absurd (no-answer (message_lines m config w (Replica j) (GossipOf names)) (tt, tt) among)
-    message-spoken (Replica j) Blank asked among = absurd among
-    message-spoken (Client f) (UpdateCopy call time) asked among = absurd among
-    message-spoken (Client f) (QueryCopy call) asked among = absurd among
-    message-spoken (Client f) (DoneReply c names) asked among = absurd (no-reply (w.front f).open_call c among)
-    message-spoken (Client f) (AnswerReply c names) asked among = absurd (no-reply (w.front f).open_call c among)
-    message-spoken (Client f) (GossipOf names) asked among = absurd among
-    message-spoken (Client f) Blank asked among = absurd among
-
-  -- ---- a step
-
-  module _ (config : Config) (w : Facts Op) where
-    delivery-spoken : (number : ℕ) (o : Option (SentMessage Op)) → find (λ x. x.number == number) w.messages ≡ o
-        → IsAmong line (delivery_lines m config w number o)
-        → IsSpoken (lines_read o w (delivery_lines m config w number o))
-    delivery-spoken number None e among = absurd (no-answer (delivery_lines m config w number None) (tt, tt) among)
-    delivery-spoken number (Some x) e among =
-        message-spoken config w x.number x.from x.to x.what
-        (x, (find-some (λ x. x.number == number) w.messages x e).0, refl) among
-
-    own-spoken : (event : Event Op) → IsAmong line (own_lines m config w event) → IsSpoken (own_read m config w event)
-    own-spoken (Call f replica reading op) among =
-        absurd (no-answer (own_lines m config w (Call f replica reading op))
-        (call-other w f replica _ op (w.front f).open_call ((w.front f).calls == 2 ^ 62)) among)
-    own-spoken (GossipEvent from to) among = absurd
-        (no-answer (own_lines m config w (GossipEvent from to)) (tt, tt) among)
-    own-spoken (Show j) among = absurd (no-answer (own_lines m config w (Show j)) (tt, tt) among)
-    own-spoken (Deliver number) among = delivery-spoken number _ refl among
-
-    -- where a step says an answer
-    pub step-spoken : (step : Step Op) → step.outcomes ≡ outcomes_of m config w step.event → IsAmong line step.outcomes
-        → Keeps fresh (own_read m config w step.event) → IsSpoken (after w step)
-    step-spoken step legal among k =
-        let own = own_lines m config w step.event in
-        subst IsSpoken (sym (after-parts m config w step legal))
-        (by_actor (stepping w step.event) (own_read m config w step.event) (delivery_of w step.event) k
-        (elim (among-parts line own _ (subst (IsAmong line) legal among)) [
-          | inl first ↦ inl (own-spoken step.event first)
-          | inr last ↦ inr last
-        ]))
+  module _ (l : List (Acceptance Op)) (r : ℕ → SpotSet) (messages : List (SentMessage Op)) where
+    reply-said : (o : Option (LabelledCall Op)) (c : Cid) → Each (IsSaid l r messages) (reply_line o c ∷ [])
+    reply-said None c = (tt, tt)
+    reply-said (Some call) c = by_test (same_cid call.cid c)
       where
-        by_actor : (o : Option ℕ) (mid : Facts Op) (x : Option (SentMessage Op)) → Keeps fresh mid
-            → IsSpoken mid ⊎ IsAmong line (answers_at m mid o)
-            → IsSpoken (step_ended o (lines_read x mid (answers_at m mid o)))
-        by_actor None mid x k (inl s) = s
-        by_actor None mid x k (inr none) = absurd none
-        by_actor (Some j) mid x k (inr among) =
-            answers-spoken mid j x (next_number mid) (mid.held j) mid.messages
-            (each-map _ _ (mid.held j) (λ c f. f.1) (k.held j)) among
-        by_actor (Some j) mid x k (inl s) =
-            let rest = answers-send m mid j x (next_number mid) (mid.held j) mid.messages in
-            subst IsSpoken (sym rest.1) (spoken-more mid rest.0 s)
+        by_test : (t : Bool) → Each (IsSaid l r messages) (cond t (Got c) (Stale c) ∷ [])
+        by_test true = (tt, tt)
+        by_test false = (tt, tt)
 
--- ---- where it is taken
+    call-said : (w : Facts Op) (f replica clock : ℕ) (op : Op) (o : Option (LabelledCall Op)) (worn : Bool)
+        → Each (IsSaid l r messages) (call_lines m w f replica clock op o worn)
+    call-said w f replica clock op (Some call) worn = (tt, tt)
+    call-said w f replica clock op None true = (tt, tt)
+    call-said w f replica clock op None false = by_kind (is_query (m.kind op))
+      where
+        cid : Cid
+        cid = (next_call f (w.front f) op).cid
+
+        by_kind : (t : Bool) → Each (IsSaid l r messages)
+            (Send (next_number w) (Client f) (Replica replica) (cond t (Query cid) (Update cid clock)) ∷ [])
+        by_kind true = (tt, tt)
+        by_kind false = (tt, tt)
+
+  -- ---- the lines of the event itself, behind which more may be sent
+
+  module _ (config : Config) (w : Facts Op) (new : List (SentMessage Op)) where
+    -- it says what holds of these facts
+    abbrev Said : Facts Op → List Outcome → Type 0
+    Said u lines = Each (IsSaid u.accepted u.received (new ++ u.messages)) lines
+
+    -- the reply to an update that a replica sends
+    abbrev done_to : List (Acceptance Op) → ℕ → Cid → Spot → SentMessage Op
+    done_to l j c spot = record {
+      number = next_number w;
+      from = Replica j;
+      to = Client c.client;
+      what = DoneReply c (below_of l spot);
+    }
+
+    done-said : (l : List (Acceptance Op)) (r : ℕ → SpotSet) (j : ℕ) (c : Cid) (spot : Spot) (a : Acceptance Op)
+        → IsAmong a l → a.cid ≡ c → a.spot ≡ spot → below_of l spot ≡ a.below
+        → IsSaid l r (new ++ done_to l j c spot ∷ w.messages) (done_line w j c spot)
+    done-said l r j c spot a there call at below = record {
+      acceptance = a;
+      there = there;
+      call = call;
+      at = at;
+      carries = subst
+          (λ set. IsAmong (record (done_to l j c spot) { what = DoneReply c set })
+          (new ++ done_to l j c spot ∷ w.messages)) below
+          (among-right (done_to l j c spot) new (done_to l j c spot ∷ w.messages) (inl refl));
+    }
+
+    module _ (number : ℕ) (from : Actor) where
+      -- the facts after the lines of a delivery
+      abbrev came : Actor → Carried Op → List Outcome → Facts Op
+      came to what lines = lines_read (Some (record { number = number; from = from; to = to; what = what })) w lines
+
+      accept-said : (j time : ℕ) (call : LabelledCall Op) (room left : Bool)
+          → Said (came (Replica j) (UpdateCopy call time) (accept_lines w j call.cid room left))
+          (accept_lines w j call.cid room left)
+      accept-said j time call false left = (tt, tt)
+      accept-said j time call true false = (tt, tt)
+      accept-said j time call true true =
+          let spot : Spot = record { place = j; number = suc (made w.accepted j) } in
+          let u = accepts w j spot call in
+          let a : Acceptance Op =
+          record { spot = spot; cid = call.cid; op = call.op; below = causes_of call ∪ only spot } in
+          let below = ap (λ t. cond t a.below (below_of w.accepted spot)) (same_spot-self spot) in
+          (tt, (done-said u.accepted u.received j call.cid spot a (inl refl) refl refl below, tt))
+
+      query-said : (j : ℕ) (call : LabelledCall Op) (within room : Bool) → WasSent w.messages (QueryCopy call)
+          → Said (came (Replica j) (QueryCopy call) (query_lines m w j call within room))
+          (query_lines m w j call within room)
+      query-said j call true room asked = (answer-said w j (next_number w) call w.messages new asked, tt)
+      query-said j call false true asked = (tt, tt)
+      query-said j call false false asked = (tt, tt)
+
+      message-said : (v : RunState Value Op) → IsSame m config w v → (to : Actor) (what : Carried Op)
+          → IsThere config to
+          → WasSent w.messages what
+          → Said (came to what (message_lines m config w to what)) (message_lines m config w to what)
+      message-said v same (Replica j) (UpdateCopy call time) there asked = by_spot
+          (taken_at config w j call.cid (kept_spot (w.kept j) call.cid)) refl
+        where
+          by_spot : (o : Option Spot) → taken_at config w j call.cid (kept_spot (w.kept j) call.cid) ≡ o
+              → Said (came (Replica j) (UpdateCopy call time) (update_lines config w j call.cid o))
+              (update_lines config w j call.cid o)
+          by_spot None e = accept-said j time call _ _
+          by_spot (Some spot) e =
+              let a = taken-again m config w v same j there call.cid spot e in
+              let below = ap (below_of w.accepted) (sym a.3) ∙ below_of-is w.accepted same.shared.sound.apart a.0 a.1 in
+              (tt, (done-said w.accepted w.received j call.cid spot a.0 a.1 a.2 a.3 below, tt))
+      message-said v same (Replica j) (QueryCopy call) there asked = query-said j call _ _ asked
+      message-said v same (Replica j) (DoneReply c names) there asked = tt
+      message-said v same (Replica j) (AnswerReply c names) there asked = tt
+      message-said v same (Replica j) (GossipOf names) there asked = (tt, tt)
+      message-said v same (Replica j) Blank there asked = tt
+      message-said v same (Client f) (UpdateCopy call time) there asked = tt
+      message-said v same (Client f) (QueryCopy call) there asked = tt
+      message-said v same (Client f) (DoneReply c names) there asked = reply-said _ _ _ (w.front f).open_call c
+      message-said v same (Client f) (AnswerReply c names) there asked = reply-said _ _ _ (w.front f).open_call c
+      message-said v same (Client f) (GossipOf names) there asked = tt
+      message-said v same (Client f) Blank there asked = tt
+
+    own-said : (v : RunState Value Op) → IsSame m config w v → (event : Event Op)
+        → Said (own_read m config w event) (own_lines m config w event)
+    own-said v same (Call f replica reading op) =
+        call-said _ _ _ w f replica _ op (w.front f).open_call ((w.front f).calls == 2 ^ 62)
+    own-said v same (GossipEvent from to) = (tt, tt)
+    own-said v same (Show j) = (tt, tt)
+    own-said v same (Deliver number) = by_found (find (λ x. x.number == number) w.messages) refl
+      where
+        by_found : (o : Option (SentMessage Op)) → find (λ x. x.number == number) w.messages ≡ o
+            → Said (lines_read o w (delivery_lines m config w number o)) (delivery_lines m config w number o)
+        by_found None e = (tt, tt)
+        by_found (Some x) e =
+            message-said x.number x.from v same x.to x.what (sent-there m config w v same number x e)
+            (x, (find-some (λ x. x.number == number) w.messages x e).0, refl)
+
+  -- what a step's lines say holds after the step
+  pub step-said : (config : Config) (w : Facts Op) (v : RunState Value Op) → IsPoint m config w v → (step : Step Op)
+      → step.outcomes ≡ outcomes_of m config w step.event → AllSaid (after w step) step.outcomes
+  step-said config w v p step legal =
+      let mid = own_read m config w step.event in
+      let opens = own-next m config fresh w p.keeps v p.same (λ n cid x r f e. f)
+      (λ n client cid own seq e. (let i = ap n own in omega arith, own)) step.event in
+      subst (AllSaid (after w step)) (sym legal)
+      (subst (λ (u : Facts Op). AllSaid u (outcomes_of m config w step.event)) (sym (after-parts m config w step legal))
+      (by_actor (stepping w step.event) mid (delivery_of w step.event) (own_lines m config w step.event) opens.keeps
+      (λ new. own-said config w new v p.same step.event)))
+    where
+      by_actor : (o : Option ℕ) (mid : Facts Op) (x : Option (SentMessage Op)) (own : List Outcome) → Keeps fresh mid
+          → ((new : List (SentMessage Op)) → Each (IsSaid mid.accepted mid.received (new ++ mid.messages)) own)
+          → AllSaid (step_ended o (lines_read x mid (answers_at m mid o))) (own ++ answers_at m mid o)
+      by_actor None mid x own k said = each-append _ own [] (said []) tt
+      by_actor (Some j) mid x own k said =
+          let rest = answers-send m mid j x (next_number mid) (mid.held j) mid.messages in
+          let asked = each-map _ _ (mid.held j) (λ c f. f.1) (k.held j) in
+          each-append _ own (answers_at m mid (Some j))
+          (subst (λ (u : Facts Op). AllSaid u own) (sym rest.1) (said rest.0))
+          (answers-said mid j x (next_number mid) (mid.held j) mid.messages asked)
+
+-- ---- where a message is taken
 
 module _ {Value Op : Type 0} (m : Meaning Value Op) (kind_of : Op → Kind) (lawful : Lawful m kind_of) (config : Config)
-    (before between later : List (Step Op)) (sending answer : Step Op)
-    (fits : Fits m config (before ++ sending ∷ between ++ answer ∷ later))
-    (legal : IsLegal m config (before ++ sending ∷ between ++ answer ∷ later))
-    (n i client : ℕ) (cid : Cid) (text : List ℕ) (said : IsAmong (line m n i client cid text) sending.outcomes)
-    (delivers : answer.event ≡ Deliver n) (seen : SpotSet)
-    (takes : TakesAnswer (before ++ sending ∷ between) answer client cid seen) where
+    (before between later : List (Step Op)) (sending taking : Step Op)
+    (fits : Fits m config (before ++ sending ∷ between ++ taking ∷ later))
+    (legal : IsLegal m config (before ++ sending ∷ between ++ taking ∷ later))
+    (n : ℕ) (delivers : taking.event ≡ Deliver n) (client : ℕ) (cid : Cid) (reply : Carried Op)
+    (takes : Takes (before ++ sending ∷ between) taking client cid reply) where
   abbrev start : List (Step Op)
   start = before ++ sending ∷ between
 
-  -- the answer as it was sent, and what is taken of it
-  record IsBoth (sent : Facts Op) : Type 0 where
-    pub spoken : IsSpoken m n i client cid text sent
-    pub set : seen ≡ ready sent.accepted (sent.received i)
+  abbrev sent : Facts Op
+  sent = facts_of (before ++ sending ∷ [])
 
-  both : IsBoth (facts_of (before ++ sending ∷ []))
-  both =
-      let fits1 = (each-parts _ start (answer ∷ later) fits).0 in
-      let fits0 = each-parts _ before (sending ∷ between) fits1 in
-      let legal1 = (legal-parts m config start (answer ∷ later) first_facts legal).0 in
-      let legal0 = legal-parts m config before (sending ∷ between) first_facts legal1 in
+  sent-is : sent ≡ after (facts_of before) sending
+  sent-is = facts-parts before (sending ∷ []) first_facts
+
+  start_fits : Fits m config start
+  start_fits = (each-parts _ start (taking ∷ later) fits).0
+
+  start_legal : IsLegal m config start
+  start_legal = (legal-parts m config start (taking ∷ later) first_facts legal).0
+
+  -- what the sending step's lines say
+  pub all-said : AllSaid m sent sending.outcomes
+  all-said =
+      let legal0 = legal-parts m config before (sending ∷ between) first_facts start_legal in
+      let at = any-point m kind_of lawful config before
+      (each-parts _ before (sending ∷ between) start_fits).0 legal0.0 in
+      subst (λ (u : Facts Op). AllSaid m u sending.outcomes) (sym sent-is)
+      (step-said m config (facts_of before) at.0 at.1 sending legal0.1.0)
+
+  -- what it sent under this number is taken
+  pub reply-is : (x : SentMessage Op) → x.number ≡ n → IsAmong x sent.messages → reply ≡ x.what
+  reply-is x number among =
+      let fits0 = each-parts _ before (sending ∷ between) start_fits in
+      let legal0 = legal-parts m config before (sending ∷ between) first_facts start_legal in
       let w = facts_of before in
       let at = any-point m kind_of lawful config before fits0.0 legal0.0 in
-      let mid = own-next m config fresh w at.1.keeps at.0 at.1.same (λ n cid x r f e. f)
-      (λ n client cid own seq e. (let i = ap n own in omega arith, own)) sending.event in
-      let spoken = step-spoken m n i client cid text config w sending legal0.1.0 said mid.keeps in
       let next = step-point m kind_of lawful config w at.0 at.1 sending fits0.1.0 legal0.1.0 in
       let last = later-point m kind_of lawful config between (after w sending) (stepped m at.0 sending.event).run next.0
       fits0.1.1 legal0.1.1 in
       let now = facts_after (after w sending) between in
-      let among = subst (IsAmong spoken.answer) (sym last.2.messages.1)
-      (among-right spoken.answer last.2.messages.0 (after w sending).messages spoken.among) in
-      let found = found-among spoken.answer now.messages last.1.keeps.numbered among in
+      let was = subst (λ (u : Facts Op). IsAmong x u.messages) sent-is among in
+      let stays = subst (IsAmong x) (sym last.2.messages.1)
+      (among-right x last.2.messages.0 (after w sending).messages was) in
       let same : facts_of start ≡ now = facts-parts before (sending ∷ between) first_facts in
-      let one : Some takes.message ≡ Some spoken.answer =
+      let one : Some takes.message ≡ Some x =
       sym takes.comes ∙ ap (delivery_of (facts_of start)) delivers
       ∙ ap (λ (u : Facts Op). find (λ x. x.number == n) u.messages) same
-      ∙ ap (λ k. find (λ (x : SentMessage Op). x.number == k) now.messages) (sym spoken.number) ∙ found in
-      let message : takes.message ≡ spoken.answer = cc in
-      let ready_now = ready (after w sending).accepted ((after w sending).received i) in
-      let what : ◌≡◌ {A = Carried Op} (AnswerReply cid seen) (AnswerReply cid ready_now) =
-      sym takes.what ∙ ap (λ (x : SentMessage Op). x.what) message ∙ spoken.what in
-      let set : seen ≡ ready_now = cc in
-      subst IsBoth (sym (facts-parts before (sending ∷ []) first_facts)) (record { spoken = spoken; set = set })
+      ∙ ap (λ k. find (λ (x : SentMessage Op). x.number == k) now.messages) (sym number)
+      ∙ found-among x now.messages last.1.keeps.numbered stays in
+      let message : takes.message ≡ x = cc in
+      sym takes.what ∙ ap (λ (x : SentMessage Op). x.what) message
 
-  -- it was read after what is ready where it was sent
-  pub read-ready : seen ≡ ready (facts_of (before ++ sending ∷ [])).accepted
-      ((facts_of (before ++ sending ∷ [])).received i)
-  read-ready = both.set
+  module _ (i : ℕ) where
+    -- an answer that is taken was read after what is ready where it was sent, and says what the service reads then
+    pub answer-taken : (text : List ℕ) (seen : SpotSet) → reply ≡ AnswerReply cid seen
+        → IsAmong (Send n (Replica i) (Client client) (Answer cid text)) sending.outcomes
+        → (seen ≡ ready sent.accepted (sent.received i)) × IsReadAfter m sent seen cid text
+    answer-taken text seen is among =
+        let s : IsAnswerSaid m sent.accepted sent.received sent.messages n (Replica i) (Client client) cid text =
+        each-at _ _ sending.outcomes all-said among in
+        let what : ◌≡◌ {A = Carried Op} (AnswerReply cid seen)
+        (AnswerReply cid (ready sent.accepted (sent.received s.i))) =
+        sym is ∙ reply-is _ refl s.carries in
+        let replica : i ≡ s.i = (let e = s.replica in cc) in
+        let ready_is : seen ≡ ready sent.accepted (sent.received s.i) = cc in (
+          ready_is ∙ ap (λ j. ready sent.accepted (sent.received j)) (sym replica),
+          record {
+            call = s.call;
+            copy = s.asked.0;
+            sent = s.asked.1;
+            what = s.asked.2;
+            name = s.name;
+            text_is = s.text_is ∙ ap (λ set. m.read (value m sent.accepted set) s.call.op) (sym ready_is);
+          },
+        )
 
-  -- and says what the service reads after this
-  pub read-after : IsReadAfter m (facts_of (before ++ sending ∷ [])) seen cid text
-  read-after =
-      let s = both.spoken in
-      let w = facts_of (before ++ sending ∷ []) in
-      record {
-        call = s.call;
-        copy = s.asked.0;
-        sent = s.asked.1;
-        what = s.asked.2;
-        name = s.name;
-        text_is = s.text_is ∙ ap (λ set. m.read (value m w.accepted set) s.call.op) (sym both.set);
-      }
+    -- a reply that is taken stands for an acceptance of the call at the spot that it was sent with
+    pub done-taken : (spot : Spot) (names : SpotSet) → reply ≡ DoneReply cid names
+        → IsAmong (Send n (Replica i) (Client client) (Done cid spot)) sending.outcomes
+        → IsDoneAt sent.accepted cid spot names
+    done-taken spot names is among =
+        let s : IsDoneSaid m sent.accepted sent.received sent.messages n (Replica i) (Client client) cid spot =
+        each-at _ _ sending.outcomes all-said among in
+        let what : ◌≡◌ {A = Carried Op} (DoneReply cid names) (DoneReply cid s.acceptance.below) =
+        sym is ∙ reply-is _ refl s.carries in
+        let below : s.acceptance.below ≡ names = cc in
+        record { acceptance = s.acceptance; among = s.there; call = s.call; at = s.at; below = below }

@@ -107,12 +107,12 @@ module _ {Value Op : Type 0} (m : Meaning Value Op) (config : Config) (w : Facts
 -- ---- an update that was taken before
 
 -- a replica took a call at an acceptance of it
-abbrev IsDone : {Op : Type 0} → List (Acceptance Op) → Cid → Spot → Type 0
+abbrev pub IsDone : {Op : Type 0} → List (Acceptance Op) → Cid → Spot → Type 0
 IsDone {Op} l cid spot = (a : Acceptance Op) × IsAmong a l × (a.cid ≡ cid) × (a.spot ≡ spot)
 
 module _ {Value Op : Type 0} (m : Meaning Value Op) (config : Config) (w : Facts Op) (v : RunState Value Op)
     (same : IsSame m config w v) where
-  taken-again : (i : ℕ) → i < config.replicas → (cid : Cid) (spot : Spot)
+  pub taken-again : (i : ℕ) → i < config.replicas → (cid : Cid) (spot : Spot)
       → taken_at config w i cid (kept_spot (w.kept i) cid) ≡ Some spot → IsDone w.accepted cid spot
   taken-again i here cid spot e = by_kept (kept_spot (w.kept i) cid) refl e
     where
@@ -137,6 +137,18 @@ module _ {Value Op : Type 0} (m : Meaning Value Op) (config : Config) (w : Facts
                   let a = table.stamps cid k known in
                   let is : k.spot ≡ spot = cc in
                   (a.0, a.1, a.3, sym a.2 ∙ is)
+
+  -- a message was sent to somebody
+  pub sent-there : (n : ℕ) (x : SentMessage Op) → find (λ x. x.number == n) w.messages ≡ Some x → IsThere config x.to
+  sent-there n x e =
+      there (message_at v.posted n) (subst (λ o. SameOption Same o (message_at v.posted n)) e (same.shared.messages n))
+    where
+      Same : SentMessage Op → Posted Op → Type 0
+      Same x p = SameMessage m config w.accepted w.received same.issued (calls_in w) x p
+
+      there : (p : Option (Posted Op)) → SameOption Same (Some x) p → IsThere config x.to
+      there None s = absurd s
+      there (Some p) s = s.there
 
 -- ---- a rule goes on to hold
 
@@ -248,15 +260,7 @@ module _ {Value Op : Type 0} (m : Meaning Value Op) (config : Config) (R : Rule)
       delivery-next n (Some x) e =
           let found = find-some (λ x. x.number == n) w.messages x e in
           let fine = each-at (λ x. IsFine (R.of (calls_in w)) w.accepted x.what) x w.messages h.messages found.0 in
-          message-next x.number x.from x.to x.what (there (message_at v.posted n)
-          (subst (λ o. SameOption Same o (message_at v.posted n)) e (same.shared.messages n))) fine (x, found.0, refl)
-        where
-          Same : SentMessage Op → Posted Op → Type 0
-          Same x p = SameMessage m config w.accepted w.received same.issued (calls_in w) x p
-
-          there : (p : Option (Posted Op)) → SameOption Same (Some x) p → IsThere config x.to
-          there None s = absurd s
-          there (Some p) s = s.there
+          message-next x.number x.from x.to x.what (sent-there m config w v same n x e) fine (x, found.0, refl)
 
     -- ---- a client calls
 

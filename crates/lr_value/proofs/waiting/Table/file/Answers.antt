@@ -10,24 +10,24 @@ use Rattle.lr_value.proofs.waiting.Table.file.Goals as goal
 pub first_lack-requires : goal.first_lack-requires
 first_lack-requires g c = (fits-among _ c.requires.1 c.requires.2.fit c.args.update.now c.requires.3).prev
 
-pub free-requires-clause-one : goal.free-requires-clause-one
-free-requires-clause-one g c r among same =
+pub make_ready-requires-clause-one : goal.make_ready-requires-clause-one
+make_ready-requires-clause-one g c r among same =
     let left = c.requires.1 in
     let table = c.requires.2 in
     same-spot left table.order r.now c.args.update.now (table.held r.now (inl (r, among, refl))) c.requires.3 same
 
 pub returns-in-None-clause-table : goal.returns-in-None-clause-table
 returns-in-None-clause-table g c =
-    if-both c.free.result _ _ _ (λ ok put order raised left among table. rw c.free.ensures.blocked
+    if-both c.make_ready.result _ _ _ (λ ok put order raised left among table. rw c.make_ready.ensures.blocked
     (table-put (λ needs. needs.place ≢ raised → Lacks c.args.val_ts.now needs) c.args.val_ts.now left
     c.args.self.now.ready.items c.args.self.now.blocked.items table c.args.update.now _ among
-    (c.in-None.ensures.none refl) put order)) c.free.ensures.ready c.free.ensures.in_order
+    (c.in-None.ensures.none refl) put order)) c.make_ready.ensures.ready c.make_ready.ensures.in_order
 
 pub returns-in-None-clause-held : goal.returns-in-None-clause-held
 returns-in-None-clause-held g c =
-    if-both c.free.result _ _ _ (λ ok put order u. rw c.free.ensures.blocked
-    (held-put c.args.update.now c.args.self.now.ready.items _ c.args.self.now.blocked.items put u)) c.free.ensures.ready
-    c.free.ensures.in_order
+    if-both c.make_ready.result _ _ _ (λ ok put order u. rw c.make_ready.ensures.blocked
+    (held-put c.args.update.now c.args.self.now.ready.items _ c.args.self.now.blocked.items put u)) c.make_ready.ensures.ready
+    c.make_ready.ensures.in_order
 
 pub returns-in-Some-clause-table : goal.returns-in-Some-clause-table
 returns-in-Some-clause-table g c =

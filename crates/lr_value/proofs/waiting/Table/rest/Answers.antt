@@ -5,8 +5,8 @@ use Rattle.lr_value.proofs.Held.{held-block, held-over}
 use Rattle.lr_value.proofs.Members.{held-alone, order-behind, same-spot}
 use Rattle.lr_value.proofs.waiting.Table.rest.Goals as goal
 
-pub free-requires-clause-one : goal.free-requires-clause-one
-free-requires-clause-one g c r among same =
+pub make_ready-requires-clause-one : goal.make_ready-requires-clause-one
+make_ready-requires-clause-one g c r among same =
     let before = c.loop-met.self in
     let further = c.pop.new.self.items in
     let popped = c.in-Some.ensures.items ∙ sym (insert_end further c.in-Some.met) in
@@ -25,10 +25,10 @@ loop-met-preserved g c =
     let further = c.pop.new.self.items in
     let popped = c.in-Some.ensures.items ∙ sym (insert_end further c.in-Some.met) in
     record {
-      in_order = c.in_ok-free.ensures.in_order;
-      held = λ u. rw c.free.ensures.blocked
-          (held-over c.in-Some.met before.ready.items c.free.new.self.ready.items _ further (length further) _
-          c.in_ok-free.ensures.ready u (rw popped at c.loop-met.invariant.held u));
+      in_order = c.in_ok-make_ready.ensures.in_order;
+      held = λ u. rw c.make_ready.ensures.blocked
+          (held-over c.in-Some.met before.ready.items c.make_ready.new.self.ready.items _ further (length further) _
+          c.in_ok-make_ready.ensures.ready u (rw popped at c.loop-met.invariant.held u));
     }
 
 pub returns-clause-in_order : goal.returns-clause-in_order

@@ -1,7 +1,7 @@
 use Rattle.std.proofs.Common.{refl}
 use Rattle.lr_value.proofs.Held.{put-inserted, put-there}
 use Rattle.lr_value.proofs.Placed.{in-order-put}
-use Rattle.lr_value.proofs.waiting.Table.free.Goals as goal
+use Rattle.lr_value.proofs.waiting.Table.make_ready.Goals as goal
 
 pub returns-in_ok-insert-clause-in_order : goal.returns-in_ok-insert-clause-in_order
 returns-in_ok-insert-clause-in_order g c =
