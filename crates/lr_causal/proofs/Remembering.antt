@@ -55,7 +55,3 @@ module _ {Value Op : Type 0} (v : Applied Value) (rep_ts : List ℕ) (seen : Has
 pub Remembers-along : {Value Op : Type 0} (v : Applied Value) (updates now : List (LogUpdate Op)) → now ≡ updates
     → Remembers v updates → Remembers v now
 Remembers-along v updates now is all = rw is all
-
--- no update at all
-pub Remembers-none : {Value Op : Type 0} (v : Applied Value) (now : List (LogUpdate Op)) → now ≡ [] → Remembers v now
-Remembers-none v now is = rw is (λ it e k u there. absurd (cc))

@@ -95,17 +95,6 @@ read_more bytes rest after count old new line read place h cut printable is adds
       );
     }
 
--- nothing is left: the bytes are the history
-pub read_whole : (bytes rest : List ℕ) (count : ℕ) (history : History) → IsReadUpTo bytes rest count history
-    → rest ≡ [] → IsHistory bytes history
-read_whole bytes rest count history h none =
-    let all : bytes ≡ h.before = h.parts ∙ ap (λ (r : List ℕ). h.before ++ r) none ∙ append-nil h.before in
-    record {
-      lines = count;
-      read = subst (λ (b : List ℕ). IsRead count b history.events history.messages) (sym all)
-          h.read;
-    }
-
 -- the next line is the first bad one
 pub stopped : (bytes rest : List ℕ) (count : ℕ) (history : History) (h : IsReadUpTo bytes rest count history)
     → IsNoNext h.before history.events history.messages rest → IsFirstBad bytes (count + 1)

@@ -24,11 +24,6 @@ use Rattle.svc_mail.specs.Mail.{mail}
 use Rattle.svc_tally.specs.Tally.{tally}
 
 module _ {Value Op : Type 0} (m : Meaning Value Op) where
-  -- a refusal ends the simulation with nothing written
-  pub refusal-means : (header : Header) (bytes : List ℕ) (before : Option (List ℕ)) (fault : ScriptFault) (end : SimEnd) → IsFault fault end → IsRefused m bytes fault → MeansOf m header bytes before before end
-  refusal-means header bytes before (Line line cause) end is bad = subst (λ (e : SimEnd). MeansOf m header bytes before before e) (sym is) bad
-  refusal-means header bytes before NoMemoryLeft end is bad = subst (λ (e : SimEnd). MeansOf m header bytes before before e) (sym is) (inl (Appends-nil before))
-
   -- the history of a script's events was written, whole
   pub run-whole : (header : Header) (bytes : List ℕ) (events slice : List (Event Op)) (before now : Option (List ℕ)) → IsScript m header events bytes → slice ≡ events → HasPrinted m header slice before now [] → HasRunOf m header bytes before now
   run-whole header bytes events slice before now script is printed = record { events = events; script = script; printed_all = subst (λ (es : List (Event Op)). HasPrinted m header es before now []) is printed }
@@ -120,10 +115,6 @@ module _ (header : Header) (bytes : List ℕ) (has : HasHeader header bytes) (on
       at-end Tally is means = either (part Tally is) means
       at-end Mail is means = either (part Mail is) means
       at-end Claims is means = either (part Claims is) means
-
-  -- the header names the service of its number
-  pub named-by : (number : ℕ) → service_number header.service ≡ number → IsNamed number bytes
-  named-by number is other begins short = ap (λ (h : Header). service_number h.service) (one other begins) ∙ is
 
 -- a header that was read is the only one that the bytes begin with
 pub one-header : (header : Header) (bytes : List ℕ) (result : Result Header ScriptFault) → result ≡ Ok header → length bytes ≤ 8388608 → ((other : Header) → HasHeader other bytes × (length bytes ≤ 8388608) → result ≡ Ok other) → (other : Header) → HasHeader other bytes → other ≡ header

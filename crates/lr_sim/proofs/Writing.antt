@@ -170,13 +170,6 @@ lines-behind bytes head lines text e is =
     ∙ ap (λ (xs : List ℕ). drop (length xs) (head ++ lines)) is
     ∙ drop-append_seam head lines
 
--- and are no fewer bytes
-pub head-within : (bytes head lines text : List ℕ) → bytes ≡ head ++ lines → text ≡ head → length text ≤ length bytes
-head-within bytes head lines text e is =
-    let all : length bytes ≡ length head + length lines = ap length e ∙ length-append head lines in
-    let own : length text ≡ length head = ap length is in
-    omega arith
-
 -- nothing was written
 pub moved-none : (before : Option (List ℕ)) (text : List ℕ) → HasMoved before before text text
 moved-none before text = record { written = []; appended = Appends-nil before; parts = refl }

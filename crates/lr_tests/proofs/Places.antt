@@ -173,15 +173,6 @@ by-all : {A : Type 0} (P : A → Type 0) (xs : List A) → ((k : ℕ) → ForSom
 by-all P [] all = tt
 by-all P (x ∷ xs) all = (all 0 x refl, by-all P xs (λ k. all (suc k)))
 
--- a sample of none
-pub sample-none : (place : ℕ) → AreSample place 0 []
-sample-none place = record {
-  logged = λ k u e. let none : None ≡ Some u = e in cc;
-  of_place = record { ascends = tt; together = λ k u e. let none : None ≡ Some u = e in cc };
-  up_to = λ k u e. let none : None ≡ Some u = e in cc;
-  most = omega arith;
-}
-
 -- a sample up to a greater number
 pub sample-up : (place last more : ℕ) (us same : List (LogUpdate TallyOp)) → same ≡ us → last ≤ more → more ≤ 1000
     → AreSample place last us → AreSample place more same

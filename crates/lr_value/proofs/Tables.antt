@@ -35,7 +35,3 @@ goes_further p q r first then = record {
       let after : AllKnown (length q.val_ts) r.calls = then.known before in
       rw (← first.parts) after;
 }
-
--- the same of progress that is the same
-pub stays-at : {Value : Type 0} (p q : Progress Value) → q ≡ p → GoesOn p q
-stays-at p q same = subst (GoesOn p) (sym same) (stays p)

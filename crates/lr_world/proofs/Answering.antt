@@ -65,10 +65,6 @@ module _ {Value Op : Type 0} (kind_of : Op → Kind) (config now : Config) (stat
 pub IsPointOf-along : {Value Op : Type 0} (p : Saved Value) (state same before : CausalState Value Op) → state ≡ same → IsPointOf p same before → IsPointOf p state before
 IsPointOf-along {Value} {Op} p state same before is point = subst (λ (s : CausalState Value Op). IsPointOf p s before) (sym is) point
 
--- and so where nothing has happened since
-pub IsPointOf-start : {Value Op : Type 0} (p : Saved Value) (state now : CausalState Value Op) → state ≡ now → IsPointOf p state state → IsPointOf p now now
-IsPointOf-start {Value} {Op} p state now is point = subst (λ (s : CausalState Value Op). IsPointOf p s s) is point
-
 module _ {Value Op : Type 0} (m : Meaning Value Op) where
   -- where no label is applied, nothing is answered
   pub held_acts-none : (state : CausalState Value Op) (calls : List (Call Op)) → NoneApplied state.val_ts calls
