@@ -31,6 +31,9 @@ pub(crate) fn apply_ready<S: Service>(
         ((value.new ≡ value.old) × (calls.new ≡ calls.old) × (entered.new.items ≡ entered.old.items)) }
     ensures undo { without entered.new.items calls.new ≡ without entered.old.items calls.old }
 {
+    if value.is_settled(log, received) {
+        return Ok(None);
+    }
     let alloc = log.allocator();
     let table = mem::replace(calls, CallTable::new(alloc));
     let noted = mem::replace(entered, Vec::new(alloc));

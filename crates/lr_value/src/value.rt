@@ -1,9 +1,11 @@
 //! The service's value, with the stamp of what was applied to it.
-ghost use Rattle.std.specs.Prelude.{◌≡◌, ◌≤◌, fold, length, replicate, [], Some, None, IsTrue, IfOk, OnOk, OnErr};
+ghost use Rattle.std.specs.Prelude.{◌≡◌, ◌≤◌, List, fold, length, replicate, [], Some, None, IsTrue, IfOk, OnOk, OnErr};
 ghost use Rattle.std.specs.Option.{ForSome, option_map};
 ghost use Rattle.lr_base.specs.Kinds.{IsQuery};
 ghost use Rattle.lr_base.specs.Limits.{most_parts};
 ghost use Rattle.lr_base.specs.Rules.{answer_of};
+ghost use Rattle.lr_base.specs.declared.messages.Known.{Known};
+ghost use Rattle.lr_base.specs.declared.names.Cid.{Cid};
 ghost use Rattle.lr_value.specs.Applied.{GoesOn, IsOlderOf, all_ready, progress};
 ghost use Rattle.lr_value.specs.Executing.{HasApplied};
 ghost use Rattle.lr_value.specs.Remembered.{IsLogOf, IsSettledAt};
@@ -99,6 +101,20 @@ impl<S: Service> Value<S> {
         Ok(Some(text))
     }
 
+    /// Whether nothing is new since it looked last, so that nothing is ready.
+    pub fn is_settled<L: Places<S::Op>>(&self, log: &L, received: &Stamp) -> bool
+        requires { IsLogOf S.Op.kind_of received.now (L.updates log.now) self.now }
+        ensures settled { IsTrue result → IsSettledAt received.now (L.updates log.now) self.now }
+        ensures idle { IsTrue result → (calls : List (Cid × Known))
+            → all_ready S.meaning (L.updates log.now) (progress self.now calls) ≡ progress self.now calls }
+        ensures new { option_map (λ memory. memory.seen) self.now.memory ≡ Some received.now → IsTrue result }
+    {
+        match &self.memory {
+            Some(memory) => memory.is_of(received),
+            None => false,
+        }
+    }
+
     /// Applies the logged updates that are ready, each call once. Of those that wait, the first whose causes are
     /// applied comes first, and it ends where none that isn't applied has its causes applied. It looks at what is new
     /// since it looked last and at what waited then: where nothing is new it takes no memory. What it answers can be
@@ -123,7 +139,7 @@ impl<S: Service> Value<S> {
             × GoesOn (progress self.old (E.known calls.old)) (progress self.new (E.known calls.new)) }
         ensures kept { E.kept calls.new ≡ E.kept calls.old }
     {
-        if self.has_seen(received) {
+        if self.is_settled(log, received) {
             return Ok(None);
         }
         let waiting = gathered(self.alloc, log, &self.val_ts, &self.memory)?;
@@ -136,17 +152,6 @@ impl<S: Service> Value<S> {
         let left = apply_all(self.alloc, &mut draft, calls, waiting)?;
         let memory = Memory::of(self.alloc, received, left.as_slice())?;
         Ok(Some(self.put(draft, memory)))
-    }
-
-    // Whether nothing is new since it looked last.
-    fn has_seen(&self, received: &Stamp) -> bool
-        requires { length received.now ≡ length self.now.val_ts }
-        ensures { IsTrue result → option_map (λ memory. memory.seen) self.now.memory ≡ Some received.now }
-    {
-        match &self.memory {
-            Some(memory) => memory.is_of(received),
-            None => false,
-        }
     }
 
     // A second value like this one, made of the spare one if there is one.

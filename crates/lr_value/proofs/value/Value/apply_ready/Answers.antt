@@ -24,23 +24,12 @@ none-is : {X : Type 0} (o : Option X) → is_some o ≡ false → o ≡ None
 none-is None is = refl
 none-is (Some x) is = absurd (true≢false is)
 
-pub returns-then-has_seen-clause-ok : goal.returns-then-has_seen-clause-ok
-returns-then-has_seen-clause-ok g c =
-    let updates = g.L.Places.updates c.args.log.now in
-    let settled = settled-before c.args.self.now updates c.args.received.now (c.has_seen.ensures c.if-has_seen.true)
-    c.requires.all_received c.requires.remembered in
-    sym (idle g.S.Service.meaning updates (progress c.args.self.now (g.E.Executed.known c.args.calls.now))
-    settled.none_ready)
-
-pub returns-then-has_seen-clause-applied : goal.returns-then-has_seen-clause-applied
-returns-then-has_seen-clause-applied g c =
-    let p = progress c.args.self.now (g.E.Executed.known c.args.calls.now) in
-    has-applied g.S.Service.meaning (g.L.Places.updates c.args.log.now) p p (returns-then-has_seen-clause-ok g c)
-
-pub returns-then-has_seen-clause-settled : goal.returns-then-has_seen-clause-settled
-returns-then-has_seen-clause-settled g c =
-    settled-before c.args.self.now (g.L.Places.updates c.args.log.now) c.args.received.now
-    (c.has_seen.ensures c.if-has_seen.true) c.requires.all_received c.requires.remembered
+pub returns-then-is_settled-clause-applied : goal.returns-then-is_settled-clause-applied
+returns-then-is_settled-clause-applied g c =
+    let calls = g.E.Executed.known c.args.calls.now in
+    let p = progress c.args.self.now calls in
+    has-applied g.S.Service.meaning (g.L.Places.updates c.args.log.now) p p
+    (sym (c.is_settled.ensures.idle c.if-is_settled.true calls))
 
 pub gathered-requires-clause-fit : goal.gathered-requires-clause-fit
 gathered-requires-clause-fit g c =
