@@ -3,10 +3,13 @@ pub mod ByteLaws
 pub mod Bytes
 pub mod Config
 pub mod Events
+pub mod FormatLaws
+pub mod Formats
 pub mod Fronts
 pub mod Insertion
 pub mod InsertionLaws
 pub mod Kinds
+pub mod Lasts
 pub mod Lattice
 pub mod Limits
 pub mod Logged
@@ -16,6 +19,7 @@ pub mod Orders
 pub mod PlaceLaws
 pub mod Places
 pub mod Replicas
+pub mod RowLaws
 pub mod Rules
 pub mod StampLaws
 pub mod Stamps

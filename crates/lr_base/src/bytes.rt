@@ -49,8 +49,8 @@ impl From<NoMemory> for FieldFault {
     }
 }
 
-// The fault at a field that begins here.
-fn fault_at(bytes: &[u8], what: BadWhat) -> FieldFault
+/// The fault at a field that begins here.
+pub fn fault_at(bytes: &[u8], what: BadWhat) -> FieldFault
     ensures { result ≡ FieldFault.Bad (length bytes.now) what }
 {
     FieldFault::Bad {

@@ -1,5 +1,5 @@
 //! Multipart timestamps.
-ghost use Rattle.std.specs.Prelude.{⊤, ◌≡◌, ◌<◌, ◌≤◌, length, replicate};
+ghost use Rattle.std.specs.Prelude.{⊤, ◌≡◌, ◌<◌, ◌≤◌, [], ◌∷◌, ◌++◌, length, replicate};
 ghost use Rattle.lr_base.specs.Limits.{most_parts};
 ghost use Rattle.lr_base.specs.Stamps.{part, join, stamp_le, set_part};
 
@@ -36,6 +36,23 @@ impl Stamp {
         Stamp {
             parts: stored(&zeros[..parts as usize]),
         }
+    }
+
+    /// A stamp without parts, to which they are added.
+    pub fn none() -> Stamp
+        ensures { result ≡ [] }
+    {
+        Stamp {
+            parts: ArrayVec::new(),
+        }
+    }
+
+    /// Adds a part behind the others.
+    pub fn push(&mut self, number: u64)
+        requires { length self.old < most_parts }
+        ensures { self.new ≡ self.old ++ number ∷ [] }
+    {
+        self.parts.push(number);
     }
 
     /// How many parts it has.
