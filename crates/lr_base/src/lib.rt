@@ -19,7 +19,7 @@ mod stamp;
 pub use acts::{Act, Posted};
 pub use bytes::{
     BadWhat, FieldFault, GetFault, byte_field, count_field, decoded, fault_at, number_field,
-    put_count_field, put_number_field,
+    put_byte_field, put_count_field, put_number_field, put_short_field, short_field,
 };
 pub use events::{Event, Outcome, Refusal, Sent, StateLine, Step};
 pub use executed::Executed;

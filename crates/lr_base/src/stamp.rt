@@ -62,6 +62,13 @@ impl Stamp {
         self.parts.len() as u8
     }
 
+    /// The parts, as a slice.
+    pub fn as_slice(&self) -> &[u64]
+        ensures { result.now ≡ self.now }
+    {
+        self.parts.as_slice()
+    }
+
     /// A stamp equal to this one.
     pub fn copy(&self) -> Stamp
         ensures { result ≡ self.now }
