@@ -5,7 +5,7 @@ ghost use Rattle.lr_base.specs.Limits.{most_parts};
 ghost use Rattle.lr_codec.specs.States.{front_format, lists_format, state_format, state_with};
 
 use crate::frozen::{Frozen, frozen_field, may_freeze};
-use crate::heads::{Front, Stamps, Whose, head_field, stamps_field, views_field};
+use crate::heads::{Front, Whose, head_field, stamps_field, views_field};
 use crate::item_rows::received_of;
 use crate::lists::{calls_field, log_field, marks_field, order_field, table_field};
 use crate::parts::value_field;
@@ -83,48 +83,27 @@ fn lists_field<'a, S: Legible>(
 fn state_with<S: Legible>(front: Front, lists: Lists<S::Op>, value: S) -> StableState<S>
     ensures { result ≡ state_with front lists value }
 {
-    let Front {
-        head,
-        views,
-        stamps,
-        table,
-    } = front;
-    let Stamps {
-        rep_ts,
-        val_ts,
-        order_ts,
-        imm_ts,
-        top,
-    } = stamps;
-    let Lists {
-        updates,
-        acks,
-        calls,
-        base,
-        entries,
-        frozen,
-        marks,
-    } = lists;
+    let stamps = front.stamps;
     StableState {
-        replicas: head.replicas,
-        me: head.me,
-        clock: views.clock,
-        view: views.view,
-        log_view: views.log_view,
-        opened: views.opened,
-        rep_ts,
-        val_ts,
-        order_ts,
-        imm_ts,
-        top,
-        table,
-        updates,
-        acks,
-        calls,
-        base,
-        entries,
-        frozen,
-        marks,
+        replicas: front.head.replicas,
+        me: front.head.me,
+        clock: front.views.clock,
+        view: front.views.view,
+        log_view: front.views.log_view,
+        opened: front.views.opened,
+        rep_ts: stamps.rep_ts,
+        val_ts: stamps.val_ts,
+        order_ts: stamps.order_ts,
+        imm_ts: stamps.imm_ts,
+        top: stamps.top,
+        table: front.table,
+        updates: lists.updates,
+        acks: lists.acks,
+        calls: lists.calls,
+        base: lists.base,
+        entries: lists.entries,
+        frozen: lists.frozen,
+        marks: lists.marks,
         value,
     }
 }
