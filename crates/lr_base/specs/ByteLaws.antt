@@ -1,5 +1,5 @@
 -- Exact fields: what is written is read again, and what is read is written so. Exact parts make exact wholes.
-use Rattle.std.proofs.Common.{◌≡◌, ◌<◌, ◌≤◌, ◌+◌, ◌*◌, ◌/◌, ◌^◌, ◌==◌, ℕ, zero, suc, Bool, true, false, cond, ◌&&◌}
+use Rattle.std.proofs.Common.{◌≡◌, ◌<◌, ◌≤◌, ◌+◌, ◌*◌, ◌/◌, ◌^◌, ◌==◌, ℕ, zero, suc, Bool, true, false, cond}
 use Rattle.std.proofs.Common.{nat_lt, List, [], ◌∷◌, ◌++◌, length, take, drop, get_or, refl, sym, ◌∙◌, ap, arith}
 use Rattle.std.proofs.Common.{length-append, append_assoc}
 use Rattle.std.specs.Prelude.{Option, Some, flat_map, if◌then◌else◌}
@@ -15,7 +15,7 @@ use Rattle.byteorder.specs.Endian.{big_from, big_number, big_bytes}
 use Rattle.byteorder.specs.Numbers.{big_from-append, big_from-cons, big_from-lt, big_from-take, big_number-reads_back}
 use Rattle.byteorder.specs.Numbers.{length-bytes_high_first}
 use Rattle.lr_base.specs.Bytes.{Bytes, Reading, Found, Wrong, and_then, number_field, great_count_field, count_field}
-use Rattle.lr_base.specs.Bytes.{count_bytes, times, are_bytes, IsExact}
+use Rattle.lr_base.specs.Bytes.{count_bytes, times, each_may, are_bytes, IsExact}
 use Rattle.lr_base.specs.declared.bytes.BadWhat.{BadWhat}
 use Rattle.lr_base.specs.declared.bytes.BadWhat.TheVariants.{Range}
 
@@ -238,11 +238,6 @@ count-exact = record { forth = λ count rest is fits. forth count rest is (nat_l
         let parts = and_then-found (number_field 4 bytes) count_next count rest found in
         let exact = (number-exact 4).back bytes parts.0 parts.1 are parts.2 in
         cases bytes parts.1 rest parts.0 count are exact.0 exact.1 (parts.0 == 4294967295) refl parts.3
-
--- each of these may come behind the one before it
-abbrev pub each_may : {A : Type 0} → (Option A → A → Bool) → Option A → List A → Bool
-each_may may last [] = true
-each_may may last (x ∷ xs) = may last x && each_may may (Some x) xs
 
 module _ {A : Type 0} (may : Option A → A → Bool) (written : A → Bytes) (one : Option A → Bytes
     → Reading A) (exact : (last : Option A) → IsExact (may last) written (one last)) where

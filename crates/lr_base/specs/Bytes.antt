@@ -1,5 +1,5 @@
 -- How values stand in bytes: field after field, each read from the bytes that are left.
-use Rattle.std.specs.Prelude.{◌≡◌, ◌<◌, ◌^◌, ℕ, zero, suc, ◌-◌, Bool, true, ◌==◌, nat_lt, if◌then◌else◌, List, []}
+use Rattle.std.specs.Prelude.{◌≡◌, ◌<◌, ◌^◌, ℕ, zero, suc, ◌-◌, Bool, true, ◌&&◌, ◌==◌, nat_lt, if◌then◌else◌, List, []}
 use Rattle.std.specs.Prelude.{◌∷◌, ◌++◌, length, drop, Option, Some, Result, Ok, Err, ⊤}
 use Rattle.std.specs.List.{list_all}
 use Rattle.std.specs.Borrow.{Bor}
@@ -46,6 +46,11 @@ abbrev pub times : {A : Type 0} → (Option A → Bytes → Reading A) → ℕ �
 times one zero last bytes = Found [] bytes
 times one (suc n) last bytes = and_then (one last bytes)
     (λ first rest. and_then (times one n (Some first) rest) (λ more end. Found (first ∷ more) end))
+
+-- each of these may come behind the one before it
+abbrev pub each_may : {A : Type 0} → (Option A → A → Bool) → Option A → List A → Bool
+each_may may last [] = true
+each_may may last (x ∷ xs) = may last x && each_may may (Some x) xs
 
 -- the bytes of a count
 abbrev pub count_bytes : ℕ → Bytes

@@ -5,10 +5,13 @@ pub mod CallLaws
 pub mod Calls
 pub mod Config
 pub mod Events
+pub mod FormatLaws
+pub mod Formats
 pub mod Fronts
 pub mod Insertion
 pub mod InsertionLaws
 pub mod Kinds
+pub mod Lasts
 pub mod Lattice
 pub mod Limits
 pub mod Logged
@@ -19,6 +22,7 @@ pub mod Orders
 pub mod PlaceLaws
 pub mod Places
 pub mod Replicas
+pub mod RowLaws
 pub mod Rules
 pub mod StampLaws
 pub mod Stamps

@@ -1,5 +1,5 @@
 -- What a service's operations mean, and the law that every service keeps.
-use Rattle.std.specs.Prelude.{◌≡◌, ◌<◌, ◌≤◌, ◌^◌, Bool, true, false, ◌&&◌, nat_le, length}
+use Rattle.std.specs.Prelude.{◌≡◌, ◌<◌, ◌≤◌, ◌^◌, Bool, true, false, ◌&&◌, nat_le, length, Option, Some}
 use Rattle.std.specs.List.{list_all}
 use Rattle.lr_base.specs.Bytes.{Bytes, Decoded, Good, are_bytes}
 use Rattle.lr_base.specs.declared.lr_service.Kind.{Kind}
@@ -38,3 +38,8 @@ pub record Lawful {Value Op : Type 0} (m : Meaning Value Op) (kind_of : Op → K
   pub spelled : (v : Value) → m.is_value v ≡ true → length (m.spelling v) < 2 ^ 64 → m.decoded (m.spelling v) ≡ Good v
   pub one_spelling : (bytes : Bytes) (v : Value) → are_bytes bytes ≡ true → m.decoded bytes ≡ Good v
       → (m.spelling v ≡ bytes) × (m.is_value v ≡ true)
+
+-- what reads texts of operations finds the operation that is written so, if there is one
+pub record IsLegible {Value Op : Type 0} (m : Meaning Value Op) (op_of : Bytes → Option Op) : Type 0 where
+  pub forth : (op : Op) → m.is_op op ≡ true → op_of (m.text op) ≡ Some op
+  pub back : (text : Bytes) (op : Op) → op_of text ≡ Some op → (m.text op ≡ text) × (m.is_op op ≡ true)

@@ -49,8 +49,8 @@ impl From<NoMemory> for FieldFault {
     }
 }
 
-// The fault at a field that begins here.
-fn fault_at(bytes: &[u8], what: BadWhat) -> FieldFault
+/// The fault at a field that begins here.
+pub fn fault_at(bytes: &[u8], what: BadWhat) -> FieldFault
     ensures { result ≡ FieldFault.Bad (length bytes.now) what }
 {
     FieldFault::Bad {
@@ -81,8 +81,8 @@ pub fn number_field(bytes: &[u8]) -> Result<(u64, &[u8]), FieldFault>
     Ok((BigEndian::read_u64(bytes), &bytes[8..]))
 }
 
-// The number in the first 4 bytes, and the bytes behind them.
-fn short_field(bytes: &[u8]) -> Result<(u32, &[u8]), FieldFault>
+/// The number in the first 4 bytes, and the bytes behind them.
+pub fn short_field(bytes: &[u8]) -> Result<(u32, &[u8]), FieldFault>
     ensures reads { Reads (number_field 4 bytes.now) result }
     ensures memory { result ≢ Err FieldFault.NoMemory }
 {
@@ -108,6 +108,13 @@ pub fn count_field(bytes: &[u8]) -> Result<(u64, &[u8]), FieldFault>
     Ok((count, behind))
 }
 
+/// Adds a number's one byte behind `out`.
+pub fn put_byte_field(number: u8, out: &mut Text) -> Result<(), NoMemory>
+    ensures { OnOk result (out.new ≡ out.old ++ big_bytes 1 number) }
+{
+    out.push(number)
+}
+
 /// Adds a number's 8 bytes behind `out`.
 pub fn put_number_field(number: u64, out: &mut Text) -> Result<(), NoMemory>
     ensures { OnOk result (out.new ≡ out.old ++ big_bytes 8 number) }
@@ -117,8 +124,8 @@ pub fn put_number_field(number: u64, out: &mut Text) -> Result<(), NoMemory>
     out.extend(&bytes)
 }
 
-// Adds a number's 4 bytes behind `out`.
-fn put_short_field(number: u32, out: &mut Text) -> Result<(), NoMemory>
+/// Adds a number's 4 bytes behind `out`.
+pub fn put_short_field(number: u32, out: &mut Text) -> Result<(), NoMemory>
     ensures { OnOk result (out.new ≡ out.old ++ big_bytes 4 number) }
 {
     let mut bytes = [0u8; 4];

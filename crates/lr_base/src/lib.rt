@@ -18,8 +18,8 @@ mod stamp;
 
 pub use acts::{Act, Posted};
 pub use bytes::{
-    BadWhat, FieldFault, GetFault, byte_field, count_field, decoded, number_field, put_count_field,
-    put_number_field,
+    BadWhat, FieldFault, GetFault, byte_field, count_field, decoded, fault_at, number_field,
+    put_byte_field, put_count_field, put_number_field, put_short_field, short_field,
 };
 pub use events::{Event, Outcome, Refusal, Sent, StateLine, Step};
 pub use executed::Executed;
@@ -27,7 +27,7 @@ pub use laws::{join_is_least, order_of_stamps, set_part_changes_one};
 pub use limits::{
     HELD_ROOM, LAST_NUMBER, LOG_ROOM, MOST_CLIENTS, MOST_PARTS, MOST_REPLICAS, MOST_SCRIPT_BYTES,
 };
-pub use messages::{Call, Fresh, Gossip, Known, LogAck, LogUpdate, Message};
+pub use messages::{Call, Entry, Fresh, Gossip, Known, LogAck, LogUpdate, Message};
 pub use names::{Actor, Cid, Config, Spot};
 pub use numbers::{put_number, read_number};
 pub use places::Places;

@@ -1,8 +1,8 @@
 //! What a service is: a value, operations on it, and the law that lets replicas apply them in different orders.
-ghost use Rattle.std.specs.Prelude.{ℕ, ◌≡◌, ◌≢◌, ◌++◌, true, IfOk, OnOk, OnErr, IsErrOf};
+ghost use Rattle.std.specs.Prelude.{ℕ, List, Option, ◌≡◌, ◌≢◌, ◌++◌, true, IfOk, OnOk, OnErr, IsErrOf};
 ghost use Rattle.lr_base.specs.Bytes.{Decodes};
 ghost use Rattle.lr_base.specs.Kinds.{IsQuery, IsUpdate};
-ghost use Rattle.lr_base.specs.Meaning.{Meaning, Lawful, is_printable};
+ghost use Rattle.lr_base.specs.Meaning.{Meaning, Lawful, IsLegible, is_printable};
 
 use crate::bytes::GetFault;
 pub use crate::orders::agreeing_orders_give_one_value;
@@ -101,4 +101,12 @@ pub trait Service: Sized + Drop {
         ensures { Decodes (meaning.decoded bytes.now) result };
 
     ghost lawful: { Lawful meaning Self.Op.kind_of };
+}
+
+/// A service whose operations' texts are read by a definition, so that clauses can say what a text is.
+pub trait Legible: Service {
+    /// The operation that is written so, if there is one.
+    ghost op_of: { List ℕ → Option Self.Op };
+
+    ghost legible: { IsLegible Self.meaning op_of };
 }

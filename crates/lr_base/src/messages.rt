@@ -17,6 +17,18 @@ pub struct Call<O> {
     pub op: O,
 }
 
+/// An entry of a replica's order log.
+#[derive(Drop)]
+pub struct Entry<O> {
+    /// The view in which it was ordered first.
+    pub birth: u64,
+    pub call: Call<O>,
+    /// Whether its operation is ordered against all updates.
+    pub immediate: bool,
+    /// What an immediate call was frozen for: the updates that must come before it, beside those of its label.
+    pub extra: Stamp,
+}
+
 /// An update in a replica's log.
 #[derive(Drop)]
 pub struct LogUpdate<O> {
@@ -65,6 +77,21 @@ impl<O: Operation> Call<O> {
             cid: self.cid,
             prev: self.prev.copy(),
             op,
+        })
+    }
+}
+
+impl<O: Operation> Entry<O> {
+    /// An entry equal to this one.
+    pub fn copy(&self) -> Result<Self, NoMemory>
+        ensures { IfOk result (λ copied. copied ≡ self.now) }
+    {
+        let call = self.call.copy()?;
+        Ok(Entry {
+            birth: self.birth,
+            call,
+            immediate: self.immediate,
+            extra: self.extra.copy(),
         })
     }
 }

@@ -71,6 +71,13 @@ impl<T> Rows<T> {
         self.items.is_empty()
     }
 
+    /// The rows, as a vector.
+    pub fn into_vec(self) -> Vec<T>
+        ensures { result.items ≡ self }
+    {
+        self.items
+    }
+
     /// What makes room for more rows.
     pub fn allocator(&self) -> Global {
         *self.items.allocator()

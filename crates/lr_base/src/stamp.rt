@@ -1,5 +1,5 @@
 //! Multipart timestamps.
-ghost use Rattle.std.specs.Prelude.{⊤, ◌≡◌, ◌<◌, ◌≤◌, length, replicate};
+ghost use Rattle.std.specs.Prelude.{⊤, ◌≡◌, ◌<◌, ◌≤◌, [], ◌∷◌, ◌++◌, length, replicate};
 ghost use Rattle.lr_base.specs.Limits.{most_parts};
 ghost use Rattle.lr_base.specs.Stamps.{part, join, stamp_le, set_part};
 
@@ -38,11 +38,35 @@ impl Stamp {
         }
     }
 
+    /// A stamp without parts, to which they are added.
+    pub fn none() -> Stamp
+        ensures { result ≡ [] }
+    {
+        Stamp {
+            parts: ArrayVec::new(),
+        }
+    }
+
+    /// Adds a part behind the others.
+    pub fn push(&mut self, number: u64)
+        requires { length self.old < most_parts }
+        ensures { self.new ≡ self.old ++ number ∷ [] }
+    {
+        self.parts.push(number);
+    }
+
     /// How many parts it has.
     pub fn parts(&self) -> u8
         ensures { result ≡ length self.now }
     {
         self.parts.len() as u8
+    }
+
+    /// The parts, as a slice.
+    pub fn as_slice(&self) -> &[u64]
+        ensures { result.now ≡ self.now }
+    {
+        self.parts.as_slice()
     }
 
     /// A stamp equal to this one.

@@ -16,11 +16,12 @@ use Rattle.std.proofs.lemmas.Cmp.{nat_list_cmp_total, eq_by_cmp_equiv}
 use Rattle.std.proofs.lemmas.Map.Keys.{sorted_head, sorted_tail}
 use Rattle.std.proofs.lemmas.Bool.{and_from}
 use Rattle.lr_base.specs.Bytes.{Found, Reading, and_then, count_bytes, count_field, times}
-use Rattle.lr_words.specs.Tables.{Format, Table, entry_bytes, entry_field, is_behind, is_table, table_bytes, table_field}
+use Rattle.lr_base.specs.Formats.{Format}
+use Rattle.lr_words.specs.Tables.{Table, entry_bytes, entry_field, is_behind, is_table, table_bytes, table_field}
 use Rattle.lr_words.specs.TableLaws.{fact, is_entry, less}
 use Rattle.lr_words.specs.Changes.{changed}
-use Rattle.lr_words.specs.Lasts.{last_of}
-use Rattle.lr_words.proofs.Rows.{last_of-tail}
+use Rattle.lr_base.specs.Lasts.{last_of}
+use Rattle.lr_base.specs.RowLaws.{last_of-tail}
 
 -- names in the order of their bytes
 abbrev names : List ℕ → List ℕ → Ordering

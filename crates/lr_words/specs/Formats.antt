@@ -1,21 +1,17 @@
--- The values that stand in tables: numbers, words, and words in order.
-use Rattle.std.specs.Prelude.{ℕ, ◌^◌, ◌==◌, Bool, true, ◌&&◌, nat_lt, if◌then◌else◌, List, [], ◌∷◌, ◌++◌, length}
+-- The values that stand in tables beside numbers: words, and words in order.
+use Rattle.std.specs.Prelude.{◌==◌, Bool, true, ◌&&◌, nat_lt, if◌then◌else◌, List, [], ◌∷◌, ◌++◌, length}
 use Rattle.std.specs.Prelude.{Option, Some, None, flat_map, unwrap_or}
 use Rattle.std.specs.List.{list_all}
 use Rattle.std.specs.Ordering.{nat_cmp, is_le}
 use Rattle.std.specs.Cmp.Lexicographic.{slice_cmp}
 use Rattle.std.specs.Fmt.{decimal}
 use Rattle.std.specs.FinMap as map
-use Rattle.byteorder.specs.Endian.{big_bytes}
-use Rattle.lr_base.specs.Bytes.{Bytes, Reading, Found, Wrong, and_then, count_bytes, count_field, number_field, times}
+use Rattle.lr_base.specs.Bytes.{Bytes, Reading, Found, Wrong, and_then, count_bytes, count_field, times}
+use Rattle.lr_base.specs.Formats.{Format}
 use Rattle.lr_base.specs.Insertion.{insert_by}
 use Rattle.lr_base.specs.declared.bytes.BadWhat.TheVariants.{Range, Order}
-use Rattle.lr_words.specs.Tables.{Format, Table, word_bytes, word_field}
+use Rattle.lr_words.specs.Tables.{Table, word_bytes, word_field}
 use Rattle.lr_words.specs.Word.{is_word}
-
--- numbers below 2^64, in 8 bytes
-abbrev pub number_format : Format ℕ
-number_format = record { is_value = λ number. nat_lt number (2 ^ 64); written = big_bytes 8; field = number_field 8 }
 
 -- words
 abbrev pub word_format : Format Bytes

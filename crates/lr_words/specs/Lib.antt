@@ -1,7 +1,5 @@
 pub mod Changes
 pub mod Formats
-pub mod Lasts
-pub mod Parts
 pub mod TableLaws
 pub mod Tables
 pub mod TableValues

@@ -18,15 +18,16 @@ use Rattle.std.proofs.lemmas.List.{take-append-drop, length-take-le}
 use Rattle.byteorder.specs.Endian.{big_bytes}
 use Rattle.byteorder.specs.Numbers.{length-bytes_high_first}
 use Rattle.lr_base.specs.Bytes.{Bytes, Reading, Found, Wrong, and_then, number_field, count_field, count_bytes, times}
-use Rattle.lr_base.specs.Bytes.{IsExact}
+use Rattle.lr_base.specs.Bytes.{IsExact, each_may}
 use Rattle.lr_base.specs.ByteLaws.{are_bytes-behind, and_then-found, passed-found, failed-found, number-exact}
-use Rattle.lr_base.specs.ByteLaws.{count-exact, each_may, times-forth, times-back, length-flat_map-le}
+use Rattle.lr_base.specs.ByteLaws.{count-exact, times-forth, times-back, length-flat_map-le}
 use Rattle.lr_base.specs.declared.bytes.BadWhat.TheVariants.{Range, Order, Value, Short}
+use Rattle.lr_base.specs.Formats.{Format}
 use Rattle.lr_words.specs.Word.{is_word}
 use Rattle.lr_words.specs.WordTexts.{is_word-parts}
-use Rattle.lr_words.specs.Tables.{Table, Format, word_bytes, word_text_field, word_field, is_behind, entry_field}
+use Rattle.lr_words.specs.Tables.{Table, word_bytes, word_text_field, word_field, is_behind, entry_field}
 use Rattle.lr_words.specs.Tables.{entry_bytes, table_field, table_bytes, is_table}
-use Rattle.lr_words.specs.Formats.{number_format, words_format, is_up_to, is_up_to_first, are_in_order, follows}
+use Rattle.lr_words.specs.Formats.{words_format, is_up_to, is_up_to_first, are_in_order, follows}
 use Rattle.lr_words.specs.Formats.{next_word_field, words_field}
 
 -- the byte of a length stands for itself
@@ -176,10 +177,6 @@ words-exact = record {
         and_from _ _ (and_from _ _ least may.0) may.1,
       );
 }
-
--- numbers are exact
-pub number_format-exact : IsExact number_format.is_value number_format.written number_format.field
-number_format-exact = number-exact 8
 
 -- names in the order of their bytes
 abbrev names : Bytes → Bytes → Ordering

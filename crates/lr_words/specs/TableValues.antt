@@ -16,7 +16,8 @@ use Rattle.lr_base.specs.Bytes.{Bytes}
 use Rattle.lr_words.specs.Changes.{changes-commute, same_name-symm}
 use Rattle.lr_base.specs.InsertionLaws.{length-inserted}
 use Rattle.lr_words.specs.Formats.{is_up_to, words_format, words_of, with_word, insert_word, are_in_order}
-use Rattle.lr_words.specs.Tables.{Format, Table, is_table}
+use Rattle.lr_base.specs.Formats.{Format}
+use Rattle.lr_words.specs.Tables.{Table, is_table}
 use Rattle.lr_words.specs.Word.{is_word}
 use Rattle.lr_words.specs.WordOrder.{insert_word-commute, insert_word-in_order, insert_word-words}
 

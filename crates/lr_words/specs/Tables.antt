@@ -7,17 +7,12 @@ use Rattle.std.specs.Cmp.Lexicographic.{slice_cmp}
 use Rattle.std.specs.FinMap as map
 use Rattle.lr_base.specs.Bytes.{Bytes, Reading, Found, Wrong, and_then, count_bytes, count_field, number_field, times}
 use Rattle.lr_base.specs.declared.bytes.BadWhat.TheVariants.{Short, Range, Order, Value}
+use Rattle.lr_base.specs.Formats.{Format}
 use Rattle.lr_words.specs.Word.{is_word}
 
 -- values by name
 abbrev pub Table : Type 0 → Type 0
 Table V = map.FinMap (slice_cmp nat_cmp) V
-
--- how values stand in bytes: which are written, with which bytes, and what is read
-pub record Format (V : Type 0) : Type 0 where
-  pub is_value : V → Bool
-  pub written : V → Bytes
-  pub field : Bytes → Reading V
 
 -- the length of a word, and then its bytes
 abbrev pub word_bytes : Bytes → Bytes

@@ -7,11 +7,11 @@ ghost use Rattle.std.specs.Ordering.{nat_cmp};
 ghost use Rattle.lr_base.specs.Bytes.{times};
 ghost use Rattle.lr_words.specs.Tables.{entry_bytes, entry_field, is_behind};
 ghost use Rattle.lr_words.specs.TableLaws.{is_entry};
-ghost use Rattle.lr_words.specs.Lasts.{ReadsEntry, ReadsRows, last_of};
+ghost use Rattle.lr_base.specs.Lasts.{ReadsEntry, ReadsRows, last_of};
 
-use crate::stored::{Stored, wrong};
+use crate::stored::Stored;
 use crate::word::Word;
-use lr_base::{BadWhat, FieldFault, NoMemory, Text};
+use lr_base::{BadWhat, FieldFault, NoMemory, Text, fault_at};
 use std::alloc::Global;
 use std::collections::BTreeMap;
 
@@ -75,7 +75,7 @@ fn next_field<'a, V: Stored>(
 {
     let (name, rest) = Word::field(alloc, bytes)?;
     if !is_behind(entries, &name) {
-        return Err(wrong(bytes, BadWhat::Order));
+        return Err(fault_at(bytes, BadWhat::Order));
     }
     let (value, end) = V::field(alloc, rest)?;
     Ok((name, value, end))

@@ -7,11 +7,13 @@ ghost use Rattle.lr_words.specs.Tables.{word_bytes};
 ghost use Rattle.lr_words.specs.Word.{is_word};
 ghost use Rattle.lr_words.specs.Formats.{are_in_order, follows, next_word_field, insert_word, words_format, words_text};
 ghost use Rattle.lr_words.specs.TableLaws.{words-exact};
-ghost use Rattle.lr_words.specs.Lasts.{ReadsRows, last_of};
+ghost use Rattle.lr_base.specs.Lasts.{ReadsRows, last_of};
 
-use crate::stored::{Stored, wrong};
+use crate::stored::Stored;
 use crate::word::Word;
-use lr_base::{BadWhat, FieldFault, NoMemory, Text, count_field, put_count_field, put_number};
+use lr_base::{
+    BadWhat, FieldFault, NoMemory, Text, count_field, fault_at, put_count_field, put_number,
+};
 use std::alloc::{AllocError, Global};
 use std::marker::Model;
 
@@ -124,7 +126,7 @@ impl Stored for WordList {
     fn field(alloc: Global, bytes: &[u8]) -> Result<(WordList, &[u8]), FieldFault> {
         let (count, rest) = count_field(bytes)?;
         if count == 0 {
-            return Err(wrong(bytes, BadWhat::Range));
+            return Err(fault_at(bytes, BadWhat::Range));
         }
         match words_field(alloc, count, rest) {
             Ok((words, end)) => Ok((WordList { words }, end)),
@@ -182,7 +184,7 @@ fn next_field<'a>(
 {
     let (word, rest) = Word::field(alloc, bytes)?;
     if !follows(words, &word) {
-        return Err(wrong(bytes, BadWhat::Order));
+        return Err(fault_at(bytes, BadWhat::Order));
     }
     Ok((word, rest))
 }

@@ -1,12 +1,16 @@
 //! What stands in a table behind each name: numbers and words, and how each stands in bytes.
-ghost use Rattle.std.specs.Prelude.{◌≡◌, ◌≤◌, ◌++◌, ◌∷◌, length, true, IfOk, OnOk};
+ghost use Rattle.std.specs.Prelude.{◌≡◌, ◌≤◌, ◌++◌, ◌∷◌, true, IfOk, OnOk};
 ghost use Rattle.lr_base.specs.Bytes.{IsExact, Reads};
-ghost use Rattle.lr_words.specs.Tables.{Format, word_text_field};
-ghost use Rattle.lr_words.specs.Formats.{number_format, word_format};
-ghost use Rattle.lr_words.specs.TableLaws.{number_format-exact, word-exact};
+ghost use Rattle.lr_base.specs.Formats.{Format, number_format};
+ghost use Rattle.lr_base.specs.FormatLaws.{number_format-exact};
+ghost use Rattle.lr_words.specs.Tables.{word_text_field};
+ghost use Rattle.lr_words.specs.Formats.{word_format};
+ghost use Rattle.lr_words.specs.TableLaws.{word-exact};
 
 use crate::word::Word;
-use lr_base::{BadWhat, FieldFault, NoMemory, Text, byte_field, number_field, put_number_field};
+use lr_base::{
+    BadWhat, FieldFault, NoMemory, Text, byte_field, fault_at, number_field, put_number_field,
+};
 use std::alloc::Global;
 
 /// What stands in a table behind each name.
@@ -55,10 +59,10 @@ impl Stored for Word {
     fn field(_alloc: Global, bytes: &[u8]) -> Result<(Word, &[u8]), FieldFault> {
         let (size, rest) = byte_field(bytes)?;
         if size < 1 {
-            return Err(wrong(bytes, BadWhat::Range));
+            return Err(fault_at(bytes, BadWhat::Range));
         }
         if size > 16 {
-            return Err(wrong(bytes, BadWhat::Range));
+            return Err(fault_at(bytes, BadWhat::Range));
         }
         text_field(size, rest)
     }
@@ -74,20 +78,10 @@ fn text_field(size: u8, bytes: &[u8]) -> Result<(Word, &[u8]), FieldFault>
 {
     let size = usize::from(size);
     if bytes.len() < size {
-        return Err(wrong(bytes, BadWhat::Short));
+        return Err(fault_at(bytes, BadWhat::Short));
     }
     match Word::read(&bytes[..size]) {
         Some(word) => Ok((word, &bytes[size..])),
-        None => Err(wrong(bytes, BadWhat::Value)),
-    }
-}
-
-// The fault at a field that begins here.
-pub(crate) fn wrong(bytes: &[u8], what: BadWhat) -> FieldFault
-    ensures { result ≡ FieldFault.Bad (length bytes.now) what }
-{
-    FieldFault::Bad {
-        left: bytes.len(),
-        what,
+        None => Err(fault_at(bytes, BadWhat::Value)),
     }
 }

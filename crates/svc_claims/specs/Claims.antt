@@ -7,8 +7,8 @@ use Rattle.lr_base.specs.declared.lr_service.Kind.{Kind}
 use Rattle.lr_base.specs.declared.lr_service.Kind.TheVariants.{Query, Causal, Forced, Immediate}
 use Rattle.lr_base.specs.Meaning.{Meaning}
 use Rattle.lr_words.specs.Formats.{word_format, words_format, words_of, words_text, with_word}
-use Rattle.lr_words.specs.Parts.{both, decoded_in, renamed}
-use Rattle.lr_words.specs.Tables.{Format, Table, table_of}
+use Rattle.lr_base.specs.Formats.{Format, both, decoded_in, renamed}
+use Rattle.lr_words.specs.Tables.{Table, table_of}
 use Rattle.lr_words.specs.Word.{is_word}
 use Rattle.svc_claims.specs.declared.op.ClaimsOp.{ClaimsOp}
 use Rattle.svc_claims.specs.declared.op.ClaimsOp.TheVariants.{Note, Claim, Clear, Who}

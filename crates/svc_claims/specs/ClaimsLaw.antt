@@ -7,7 +7,8 @@ use Rattle.lr_base.specs.Bytes.{Bytes}
 use Rattle.lr_base.specs.Kinds.{IsUpdate, are_ordered}
 use Rattle.lr_base.specs.Meaning.{Lawful, is_printable}
 use Rattle.lr_words.specs.Formats.{word_format, words_format, words_of, words_text}
-use Rattle.lr_words.specs.Parts.{IsExactFormat, both, both-exact, one_spelling-in, renamed-exact, spelled-in}
+use Rattle.lr_base.specs.FormatLaws.{both-exact, one_spelling-in, renamed-exact, spelled-in}
+use Rattle.lr_base.specs.Formats.{IsExactFormat, both}
 use Rattle.lr_words.specs.Tables.{Table, is_table, table_of}
 use Rattle.lr_words.specs.TableLaws.{table-exact, word-exact, words-exact}
 use Rattle.lr_words.specs.TableValues.{table-empty, table-get, table-insert, table-remove, table-with_word}
@@ -145,8 +146,8 @@ printable_answer-of v (Who name) value =
 
 -- values are spelled exactly, since tables are
 claims-exact : IsExactFormat claims_format
-claims-exact = renamed-exact of_tables tables_of (both (table_of word_format) (table_of words_format)) (λ v. refl)
-    (λ tables. refl) (both-exact (table_of word_format) (table_of words_format) (table-exact word_format word-exact)
+claims-exact = renamed-exact of_tables tables_of (both (table_of word_format) (table_of words_format)) (λ v is. refl)
+    (λ tables is. refl) (both-exact (table_of word_format) (table_of words_format) (table-exact word_format word-exact)
     (table-exact words_format words-exact))
 
 -- notes commute with notes and claims, each operation has one short text, and each value one spelling

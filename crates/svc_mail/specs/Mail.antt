@@ -7,9 +7,9 @@ use Rattle.lr_base.specs.Bytes.{Bytes}
 use Rattle.lr_base.specs.declared.lr_service.Kind.{Kind}
 use Rattle.lr_base.specs.declared.lr_service.Kind.TheVariants.{Query, Causal, Forced, Immediate}
 use Rattle.lr_base.specs.Meaning.{Meaning}
-use Rattle.lr_words.specs.Formats.{number_format, words_format, words_of, words_text, with_word}
-use Rattle.lr_words.specs.Parts.{both, decoded_in, renamed}
-use Rattle.lr_words.specs.Tables.{Format, Table, table_of}
+use Rattle.lr_words.specs.Formats.{words_format, words_of, words_text, with_word}
+use Rattle.lr_base.specs.Formats.{Format, both, decoded_in, number_format, renamed}
+use Rattle.lr_words.specs.Tables.{Table, table_of}
 use Rattle.lr_words.specs.Word.{is_word}
 use Rattle.svc_mail.specs.declared.op.MailOp.{MailOp}
 use Rattle.svc_mail.specs.declared.op.MailOp.TheVariants.{Send, Add, Delete, Read}

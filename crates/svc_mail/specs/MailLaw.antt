@@ -8,9 +8,10 @@ use Rattle.std.proofs.lemmas.Bool.{and_parts, lt-ltb}
 use Rattle.lr_base.specs.Bytes.{Bytes}
 use Rattle.lr_base.specs.Kinds.{IsUpdate, are_ordered}
 use Rattle.lr_base.specs.Meaning.{Lawful, is_printable}
-use Rattle.lr_words.specs.Formats.{number_format, words_format, words_of, words_text, with_word}
-use Rattle.lr_words.specs.Parts.{IsExactFormat, both, both-exact, one_spelling-in, renamed-exact, spelled-in}
-use Rattle.lr_words.specs.TableLaws.{number_format-exact, table-exact, words-exact}
+use Rattle.lr_words.specs.Formats.{words_format, words_of, words_text, with_word}
+use Rattle.lr_base.specs.FormatLaws.{both-exact, number_format-exact, one_spelling-in, renamed-exact, spelled-in}
+use Rattle.lr_base.specs.Formats.{IsExactFormat, both, number_format}
+use Rattle.lr_words.specs.TableLaws.{table-exact, words-exact}
 use Rattle.lr_words.specs.Tables.{is_table, table_of}
 use Rattle.lr_words.specs.TableValues.{table-empty, table-insert, table-remove, table-with_word, with_word-commute}
 use Rattle.lr_words.specs.TableValues.{words_of-parts}
@@ -165,7 +166,7 @@ printable_answer-of v (Read user) value =
 mail-exact : IsExactFormat mail_format
 mail-exact =
     renamed-exact of_parts parts_of (both number_format (both (table_of number_format) (table_of words_format)))
-    (λ v. refl) (λ parts. refl)
+    (λ v is. refl) (λ parts is. refl)
     (both-exact number_format (both (table_of number_format) (table_of words_format)) number_format-exact
     (both-exact (table_of number_format) (table_of words_format) (table-exact number_format number_format-exact)
     (table-exact words_format words-exact)))

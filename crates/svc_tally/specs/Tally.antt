@@ -10,9 +10,8 @@ use Rattle.svc_tally.specs.declared.op.TallyOp.{TallyOp}
 use Rattle.svc_tally.specs.declared.op.TallyOp.TheVariants.{Add, Read}
 use Rattle.lr_words.specs.Word.{is_word}
 use Rattle.lr_base.specs.Meaning.{Meaning}
-use Rattle.lr_words.specs.Formats.{number_format}
-use Rattle.lr_words.specs.Parts.{decoded_in}
-use Rattle.lr_words.specs.Tables.{Format, Table, table_of}
+use Rattle.lr_base.specs.Formats.{Format, decoded_in, number_format}
+use Rattle.lr_words.specs.Tables.{Table, table_of}
 
 -- a counter for each name that was added to
 abbrev pub Counts : Type 0

@@ -10,9 +10,9 @@ use Rattle.lr_base.specs.Bytes.{Bytes}
 use Rattle.lr_base.specs.Kinds.{IsUpdate}
 use Rattle.lr_base.specs.Meaning.{Lawful, is_printable}
 use Rattle.lr_words.specs.Changes.{changes-commute}
-use Rattle.lr_words.specs.Formats.{number_format}
-use Rattle.lr_words.specs.Parts.{spelled-in, one_spelling-in}
-use Rattle.lr_words.specs.TableLaws.{number_format-exact, table-exact}
+use Rattle.lr_base.specs.Formats.{number_format}
+use Rattle.lr_base.specs.FormatLaws.{number_format-exact, spelled-in, one_spelling-in}
+use Rattle.lr_words.specs.TableLaws.{table-exact}
 use Rattle.lr_words.specs.TableValues.{table-empty, table-insert}
 use Rattle.lr_words.specs.TextLaws.{append-printable, decimal-printable, decimal-short, word-printable, word-short}
 use Rattle.lr_words.specs.Word.{is_word}

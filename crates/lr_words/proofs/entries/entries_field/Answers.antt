@@ -1,6 +1,6 @@
 use Rattle.std.proofs.Common.{◌≡◌, ◌-◌, ◌+◌, ◌++◌, ◌∷◌, [], arith, ◌∙◌}
 use Rattle.lr_words.specs.Tables.{entry_field}
-use Rattle.lr_words.proofs.Rows.{joined-more}
+use Rattle.lr_base.specs.RowLaws.{joined-more}
 use Rattle.lr_words.proofs.Trees.{insert-behind}
 use Rattle.lr_words.proofs.entries.entries_field.Goals as goal
 

@@ -5,8 +5,8 @@ use Rattle.std.specs.Cmp.Lexicographic.{slice_cmp}
 use Rattle.std.specs.Ordering.{nat_cmp}
 use Rattle.lr_base.specs.Bytes.{times}
 use Rattle.lr_words.specs.Tables.{entry_field}
-use Rattle.lr_words.specs.Lasts.{last_of}
-use Rattle.lr_words.proofs.Rows.{joined}
+use Rattle.lr_base.specs.Lasts.{last_of}
+use Rattle.lr_base.specs.RowLaws.{joined}
 use Rattle.lr_words.proofs.entries.entries_field.Given as goal
 
 -- the entries so far, and what is left of the bytes

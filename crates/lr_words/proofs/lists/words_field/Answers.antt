@@ -3,8 +3,9 @@ use Rattle.std.specs.Prelude.{None, Err}
 use Rattle.std.proofs.lemmas.Result.{err_from_is_err_and}
 use Rattle.lr_base.specs.Bytes.{Found, Reads, times}
 use Rattle.lr_words.specs.Formats.{follows, next_word_field}
-use Rattle.lr_words.specs.Lasts.{last_of}
-use Rattle.lr_words.proofs.Rows.{joined-fault, joined-more, in_order-more}
+use Rattle.lr_base.specs.Lasts.{last_of}
+use Rattle.lr_base.specs.RowLaws.{joined-fault, joined-more}
+use Rattle.lr_words.proofs.Rows.{in_order-more}
 use Rattle.lr_words.proofs.lists.words_field.Goals as goal
 
 pub returns-in_err-word-clause-reads : goal.returns-in_err-word-clause-reads

@@ -2,8 +2,8 @@ use Rattle.std.proofs.Common.{◌≡◌, ◌-◌, length, true}
 use Rattle.std.specs.Prelude.{None}
 use Rattle.lr_base.specs.Bytes.{times}
 use Rattle.lr_words.specs.Formats.{are_in_order, next_word_field}
-use Rattle.lr_words.specs.Lasts.{last_of}
-use Rattle.lr_words.proofs.Rows.{joined}
+use Rattle.lr_base.specs.Lasts.{last_of}
+use Rattle.lr_base.specs.RowLaws.{joined}
 use Rattle.lr_words.proofs.lists.words_field.Given as goal
 
 -- the words so far, and what is left of the bytes

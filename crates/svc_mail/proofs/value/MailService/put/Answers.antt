@@ -1,7 +1,8 @@
 use Rattle.std.proofs.Common.{ap, ◌∙◌, ◌++◌}
 use Rattle.std.proofs.lemmas.List.{append_assoc}
 use Rattle.byteorder.specs.Endian.{big_bytes}
-use Rattle.lr_words.specs.Formats.{number_format, words_format}
+use Rattle.lr_base.specs.Formats.{number_format}
+use Rattle.lr_words.specs.Formats.{words_format}
 use Rattle.lr_words.specs.Tables.{table_bytes}
 use Rattle.svc_mail.proofs.value.MailService.put.Goals as goal
 

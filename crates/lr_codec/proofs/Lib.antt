@@ -1,0 +1,6 @@
+pub mod Texts
+pub mod Stamps
+pub mod Split
+pub mod Puts
+pub mod Log
+pub mod Within

@@ -1,0 +1,11 @@
+pub mod Faults
+pub mod ListLaws
+pub mod Lists
+pub mod PartLaws
+pub mod Parts
+pub mod RangeLaws
+pub mod Ranges
+pub mod Spelling
+pub mod StateLaws
+pub mod States
+pub mod Wanted
