@@ -10,7 +10,7 @@ use Rattle.std.specs.Option.{ForSome}
 use Rattle.lr_base.specs.CallLaws.{AreByCall-entered, known_of-entered, none-known, same-tables}
 use Rattle.lr_base.specs.Calls.{AreByCall, by_call, enter_call, up_to_call}
 use Rattle.lr_base.specs.Ascending.{cid_before}
-use Rattle.lr_base.specs.InsertionLaws.{ascends-filter}
+use Rattle.lr_base.specs.InsertionLaws.{ascends-filter, filter-both}
 use Rattle.lr_base.specs.Logged.{AllKnown}
 use Rattle.lr_base.specs.NameLaws.{same_cid-is, same_cid-self, same_cid-sym}
 use Rattle.lr_base.specs.Rules.{same_cid, known_of}
@@ -105,20 +105,6 @@ by_call-removed old new cid apart apart_now out =
 
 -- ---- calls that leave
 
--- a filter by two tests is one filter behind another
-filter-parts : {A : Type 0} (p q r : A → Bool) (xs : List A) → ((x : A) → r x ≡ (p x && q x))
-    → filter r xs ≡ filter p (filter q xs)
-filter-parts p q r [] both = refl
-filter-parts p q r (x ∷ xs) both = go (p x) refl (q x) refl (both x) (filter-parts p q r xs both)
-  where
-    go : (s : Bool) → p x ≡ s → (t : Bool) → q x ≡ t → r x ≡ (p x && q x) → filter r xs ≡ filter p (filter q xs)
-        → filter r (x ∷ xs) ≡ filter p (filter q (x ∷ xs))
-    go true first true second is rest =
-        let is' : r x ≡ true = rw (first, second) at is in rw (is', second, first) (ap (λ (l : List _). x ∷ l) rest)
-    go true first false second is rest = let is' : r x ≡ false = rw (first, second) at is in rw (is', second) rest
-    go false first true second is rest = let is' : r x ≡ false = rw first at is in rw (is', second, first) rest
-    go false first false second is rest = let is' : r x ≡ false = rw first at is in rw (is', second) rest
-
 named-append : (a b : List Cid) (cid : Cid) → is_named (a ++ b) cid ≡ (is_named a cid || is_named b cid)
 named-append [] b cid = refl
 named-append (c ∷ a) b cid = go (same_cid cid c) (named-append a b cid)
@@ -131,23 +117,23 @@ named-append (c ∷ a) b cid = go (same_cid cid c) (named-append a b cid)
 -- a table without some calls and others, whichever leave first
 pub without-append : (a b : List Cid) (calls : List (Cid × Known)) → without (a ++ b) calls ≡ without a (without b calls)
 without-append a b calls =
-    filter-parts (λ e. not (is_named a e.0)) (λ e. not (is_named b e.0)) (λ e. not (is_named (a ++ b) e.0)) calls
-    (λ e. ap not (named-append a b e.0) ∙ go (is_named a e.0) (is_named b e.0))
-  where
-    go : (s t : Bool) → not (s || t) ≡ (not s && not t)
-    go true t = refl
-    go false t = refl
-
-pub without-behind : (a b : List Cid) (calls : List (Cid × Known)) → without (a ++ b) calls ≡ without b (without a calls)
-without-behind a b calls =
-    filter-parts (λ e. not (is_named b e.0)) (λ e. not (is_named a e.0)) (λ e. not (is_named (a ++ b) e.0)) calls
-    (λ e. ap not (named-append a b e.0) ∙ go (is_named a e.0) (is_named b e.0))
+    sym (filter-both (λ e. not (is_named a e.0)) (λ e. not (is_named b e.0)) (λ e. not (is_named (a ++ b) e.0))
+    (λ e. ap not (named-append a b e.0) ∙ go (is_named a e.0) (is_named b e.0)) calls)
   where
     go : (s t : Bool) → not (s || t) ≡ (not t && not s)
     go true true = refl
     go true false = refl
     go false true = refl
     go false false = refl
+
+pub without-behind : (a b : List Cid) (calls : List (Cid × Known)) → without (a ++ b) calls ≡ without b (without a calls)
+without-behind a b calls =
+    sym (filter-both (λ e. not (is_named b e.0)) (λ e. not (is_named a e.0)) (λ e. not (is_named (a ++ b) e.0))
+    (λ e. ap not (named-append a b e.0) ∙ go (is_named a e.0) (is_named b e.0)) calls)
+  where
+    go : (s t : Bool) → not (s || t) ≡ (not s && not t)
+    go true t = refl
+    go false t = refl
 
 pub without-none : (calls : List (Cid × Known)) → without [] calls ≡ calls
 without-none [] = refl

@@ -11,6 +11,7 @@ use Rattle.std.proofs.lemmas.List.{append-nil, take-append-drop}
 use Rattle.lr_base.specs.declared.messages.LogUpdate.{LogUpdate}
 use Rattle.lr_base.specs.declared.names.Spot.{Spot}
 use Rattle.lr_base.specs.Insertion.{Ascends}
+pub use Rattle.lr_base.specs.InsertionLaws.{ascends-filter, each-filter, filter-both}
 use Rattle.lr_base.specs.Rules.{is_before, is_covered, is_new, waiting}
 use Rattle.lr_base.specs.Stamps.{Stamp, part}
 use Rattle.lr_value.specs.Applied.{Memory}
@@ -91,45 +92,6 @@ module _ {A : Type 0} where
   both P Q R [] into first second = tt
   both P Q R (x ∷ xs) into first second =
       (into x first.0 second.0, both P Q R xs into first.1 second.1)
-
-  -- a test of what passes another one is one test
-  pub filter-both : (p q r : A → Bool) → ((x : A) → r x ≡ (q x && p x)) → (xs : List A)
-      → filter p (filter q xs) ≡ filter r xs
-  filter-both p q r is [] = refl
-  filter-both p q r is (x ∷ xs) = go (q x) refl (p x) refl (filter-both p q r is xs)
-    where
-      go : (s : Bool) → q x ≡ s → (t : Bool) → p x ≡ t → filter p (filter q xs) ≡ filter r xs
-          → filter p (filter q (x ∷ xs)) ≡ filter r (x ∷ xs)
-      go true first true second rest =
-          let e : r x ≡ true = is x ∙ rw (first, second) refl in
-          rw (first, second, e) (ap (λ (l : List A). x ∷ l) rest)
-      go true first false second rest =
-          let e : r x ≡ false = is x ∙ rw (first, second) refl in
-          rw (first, second, e) rest
-      go false first t second rest =
-          let e : r x ≡ false = is x ∙ rw first refl in
-          rw (first, e) rest
-
-  -- what holds of each element holds of each that is kept
-  pub all-filter : (P : A → Type 0) (p : A → Bool) (xs : List A) → AllByRecursion P xs → AllByRecursion P (filter p xs)
-  all-filter P p [] all = tt
-  all-filter P p (x ∷ xs) all = go (p x) refl (all-filter P p xs all.1)
-    where
-      go : (t : Bool) → p x ≡ t → AllByRecursion P (filter p xs) → AllByRecursion P (filter p (x ∷ xs))
-      go true is rest = rw is (all.0, rest)
-      go false is rest = rw is rest
-
-  -- what is kept of an ascending list ascends
-  pub ascends-filter : (before : A → A → Bool) (p : A → Bool) (xs : List A) → Ascends before xs
-      → Ascends before (filter p xs)
-  ascends-filter before p [] up = tt
-  ascends-filter before p (x ∷ xs) up =
-      go (p x) refl (all-filter (λ y. before x y ≡ true) p xs up.0) (ascends-filter before p xs up.1)
-    where
-      go : (t : Bool) → p x ≡ t → AllByRecursion (λ y. before x y ≡ true) (filter p xs)
-          → Ascends before (filter p xs) → Ascends before (filter p (x ∷ xs))
-      go true is first rest = rw is (first, rest)
-      go false is first rest = rw is rest
 
 -- ---- spots
 

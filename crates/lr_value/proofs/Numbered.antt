@@ -17,7 +17,7 @@ use Rattle.lr_base.specs.Rules.{is_before, is_covered, is_new, waiting}
 use Rattle.lr_base.specs.Stamps.{Stamp}
 use Rattle.lr_value.specs.Remembered.{AreSeen}
 use Rattle.lr_value.specs.Waiting.{AreOfPlace}
-use Rattle.lr_value.proofs.Gathered.{all-filter, ascends-filter, before-number, both, by-recursion, filter-swap}
+use Rattle.lr_value.proofs.Gathered.{each-filter, ascends-filter, before-number, both, by-recursion, filter-swap}
 
 -- what holds of each element holds at each index
 pub all-at : {A : Type 0} (P : A → Type 0) (xs : List A) (k : ℕ) (d : A) → AllByRecursion P xs → k < length xs
@@ -82,7 +82,7 @@ module _ {Op : Type 0} where
       (record {
         ascends = ascends-filter (λ a b. nat_lt a.spot.number b.spot.number) p updates are.ascends;
         together = by-index (λ u. u.spot.place ≡ place) (filter p updates)
-            (all-filter (λ u. u.spot.place ≡ place) p updates
+            (each-filter (λ u. u.spot.place ≡ place) p updates
             (by-recursion (λ u. u.spot.place ≡ place) updates are.together));
       })
 
@@ -127,7 +127,7 @@ module _ {Op : Type 0} where
   pub index-filter : (P : LogUpdate Op → Type 0) (p : LogUpdate Op → Bool) (updates same : List (LogUpdate Op))
       → same ≡ filter p updates → ((k : ℕ) → ForSome (slice_get updates k) P) → (k : ℕ) → ForSome (slice_get same k) P
   index-filter P p updates same is all =
-      rw is (by-index P (filter p updates) (all-filter P p updates (by-recursion P updates all)))
+      rw is (by-index P (filter p updates) (each-filter P p updates (by-recursion P updates all)))
 
   -- what is gathered place by place of a log is what waits in it
   pub gathered-more : (val_ts : Stamp) (place : ℕ) (updates at : List (LogUpdate Op))
@@ -159,7 +159,7 @@ module _ {Op : Type 0} where
       up_to_place-whole (λ (u : LogUpdate Op). u.spot) (suc places) (waiting val_ts updates)
       (ascends-filter (λ (a b : LogUpdate Op). is_before a.spot b.spot) (λ u. not (is_covered val_ts u)) updates
       (order (omega arith)))
-      (all-filter (λ u. u.spot.place < suc places) (λ u. not (is_covered val_ts u)) updates
+      (each-filter (λ u. u.spot.place < suc places) (λ u. not (is_covered val_ts u)) updates
       (by-recursion (λ u. u.spot.place < suc places) updates (λ k u e. (fit k u e).place)))
 
 -- a number is another where it is neither greater nor less

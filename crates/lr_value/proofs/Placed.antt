@@ -6,6 +6,8 @@ use Rattle.std.proofs.lemmas.Bool.Decides.{nat_tests}
 use Rattle.std.specs.List.{AllByRecursion, AllWithin}
 use Rattle.std.specs.List.Sorted.{IsPartitionedBy, IsPartitionPoint}
 use Rattle.lr_base.specs.Insertion.{Ascends}
+use Rattle.lr_base.specs.InsertionLaws.{each-map}
+pub use Rattle.lr_base.specs.NameLaws.{before-trans, behind-shown}
 use Rattle.lr_base.specs.Orders.{IsAmong}
 use Rattle.lr_base.specs.Rules.{is_before}
 use Rattle.lr_base.specs.declared.names.Spot.{Spot}
@@ -16,9 +18,6 @@ use Rattle.std.proofs.lemmas.Option.{unwrap_or-slice_get}
 use Rattle.std.specs.Prelude.{unwrap_or}
 use Rattle.lr_value.specs.Table.{IsPlaceFor, Lacks, is_met}
 
-pub before-trans : (a b c : Spot) → is_before a b ≡ true → is_before b c ≡ true → is_before a c ≡ true
-before-trans a b c first second = grind (arith, nat_tests)
-
 pub before-self : (a : Spot) → is_before a a ≡ false
 before-self a = grind (arith, nat_tests)
 
@@ -28,9 +27,6 @@ before-once a b first = grind (arith, nat_tests)
 -- what isn't behind a spot comes before all that the spot comes before
 before-low : (a b c : Spot) → not (is_before b a) ≡ true → is_before b c ≡ true → is_before a c ≡ true
 before-low a b c first second = grind (arith, nat_tests)
-
-before-none : (a b : Spot) → is_before a b ≡ false → a ≢ b → is_before b a ≡ true
-before-none a b first other = grind (arith, nat_tests)
 
 pub spots-differ : (a b : Spot) → ((a.place == b.place) && (a.number == b.number)) ≡ false → a ≢ b
 spots-differ a b fails same = let place : a.place ≡ b.place = ap (λ (s : Spot). s.place) same in
@@ -61,10 +57,6 @@ pub lacks-there : (val_ts : Stamp) (raised : ℕ) (needs : Spot) → (needs.plac
 lacks-there val_ts raised needs elsewhere unmet = grind (arith, nat_tests)
 
 module _ {A : Type 0} where
-  each-into : (P Q : A → Type 0) (xs : List A) → ((x : A) → P x → Q x) → AllByRecursion P xs → AllByRecursion Q xs
-  each-into P Q [] into all = tt
-  each-into P Q (x ∷ xs) into all = (into x all.0, each-into P Q xs into all.1)
-
   pub each-among : (P : A → Type 0) (xs : List A) → AllByRecursion P xs → (x : A) → IsAmong x xs → P x
   each-among P [] all x among = absurd among
   each-among P (y ∷ xs) all x (inl same) = rw same all.0
@@ -207,8 +199,8 @@ module _ {A : Type 0} where
     all-behind spot [] zero behind up new = tt
     all-behind spot [] (suc at) behind up new = tt
     all-behind spot (x ∷ xs) zero behind up new =
-        let first = before-none (spot_of x) spot behind.0 (new x refl) in
-        (first, each-into _ _ xs (λ y later. before-trans spot (spot_of x) (spot_of y) first later) up.0)
+        let first = behind-shown (spot_of x) spot (new x refl) behind.0 in
+        (first, each-map _ _ xs (λ y later. before-trans spot (spot_of x) (spot_of y) first later) up.0)
     all-behind spot (x ∷ xs) (suc at) behind up new = all-behind spot xs at behind up.1 new
 
     pub in-order-put : (xs : List A) (at : ℕ) (y : A) (spot : Spot) → spot_of y ≡ spot → IsPlaceFor spot_of spot xs at
@@ -223,8 +215,8 @@ module _ {A : Type 0} where
         → Ascends (λ a b. not (is_before (spot_of b) (spot_of a))) (insert xs at y)
     by-need-put xs at y place up =
         ascends-inserted _ xs at y
-        (each-into _ _ (take at xs) (λ x e. before-once (spot_of x) (spot_of y) e) place.before)
-        (each-into _ _ (drop at xs) (λ x e. ap not e) place.behind) up
+        (each-map _ _ (take at xs) (λ x e. before-once (spot_of x) (spot_of y) e) place.before)
+        (each-map _ _ (drop at xs) (λ x e. ap not e) place.behind) up
 
     -- where the first that needs this place or a later one isn't met, none is
     pub none-met : (place number : ℕ) (xs : List A) (at : ℕ)
@@ -236,7 +228,7 @@ module _ {A : Type 0} where
     none-met place number [] at low high up first = tt
     none-met place number (x ∷ xs) zero low high up first =
         let own = first x refl in
-        (own, each-into _ _ xs (λ y later. met-later place number (spot_of x) (spot_of y) high.0 own later) up.0)
+        (own, each-map _ _ xs (λ y later. met-later place number (spot_of x) (spot_of y) high.0 own later) up.0)
     none-met place number (x ∷ xs) (suc at) low high up first =
         (met-before place number (spot_of x) low.0, none-met place number xs at low.1 high up.1 first)
 
