@@ -1,13 +1,11 @@
 -- What is known by a table of executed calls, and that this tells it apart.
-use Rattle.std.proofs.Common.{◌≡◌, Bool, true, false, cond, ◌||◌, ◌⊎◌, inl, inr, List, [], ◌∷◌, map, refl, sym, ap, ◌∙◌}
-use Rattle.std.proofs.Common.{Option, Some, None, is_some, true≢false, not, subst}
+use Rattle.std.proofs.Common.{◌≡◌, Bool, true, false, cond, ◌||◌, List, [], ◌∷◌, map, refl, sym, ap, ◌∙◌}
+use Rattle.std.proofs.Common.{Some, None, is_some, true≢false, not, subst}
 use Rattle.std.specs.List.{AllByRecursion}
-use Rattle.lr_base.specs.Ascending.{cid_before, cid_up_to, insert_cid}
-use Rattle.lr_base.specs.Calls.{AreByCall, by_call, enter_call, enter_calls, up_to_call}
-use Rattle.lr_base.specs.Insertion.{Ascends, insert_by}
-use Rattle.lr_base.specs.InsertionLaws.{ascends-inserted, each-inserted, each-map}
+use Rattle.lr_base.specs.Ascending.{cid_before, insert_cid}
+use Rattle.lr_base.specs.Calls.{AreByCall, enter_call, enter_calls, up_to_call}
+use Rattle.lr_base.specs.InsertionLaws.{ascends-inserted, each-map}
 use Rattle.lr_base.specs.NameLaws.{cid-apart, cid-neither, cid-other, same_cid-is, same_cid-self, cid-trans}
-use Rattle.lr_base.specs.Orders.{IsAmong}
 use Rattle.lr_base.specs.Rules.{known_of, same_cid}
 use Rattle.lr_base.specs.declared.messages.Known.{Known}
 use Rattle.lr_base.specs.declared.names.Cid.{Cid}

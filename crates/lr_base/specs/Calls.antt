@@ -1,5 +1,5 @@
 -- Tables of executed calls, in the order of their calls.
-use Rattle.std.specs.Prelude.{Bool, true, ◌≡◌, List}
+use Rattle.std.specs.Prelude.{Bool, List}
 use Rattle.lr_base.specs.Ascending.{cid_before, cid_up_to}
 use Rattle.lr_base.specs.Insertion.{Ascends, insert_all_by, insert_by, sorted_by}
 use Rattle.lr_base.specs.declared.messages.Known.{Known}

@@ -1,5 +1,5 @@
 -- A savepoint stays one of its state through the parts of a step.
-use Rattle.std.proofs.Common.{◌≡◌, ◌+◌, ◌<◌, ℕ, true, not, List, [], length, take, get_or, set, refl, sym, ◌∙◌, ap, Option, Some, None, arith, lt-ltb}
+use Rattle.std.proofs.Common.{◌≡◌, ◌+◌, ◌<◌, ℕ, true, not, List, [], length, get_or, set, refl, sym, ◌∙◌, ap, Option, Some, None, arith, lt-ltb}
 use Rattle.std.specs.Prelude.{filter}
 use Rattle.std.specs.Option.{ForSome}
 use Rattle.std.proofs.Math.ListN.{length-set}

@@ -1,12 +1,11 @@
 -- The entries of an indexed map, as the table of executed calls.
 use Rattle.std.proofs.Common.{◌≡◌, ◌∙◌, ◌++◌, ◌&&◌, ◌||◌, List, [], ◌∷◌, refl, sym, ap, ℕ, Bool, true, false, cond, not}
-use Rattle.std.proofs.Common.{Option, Some, None, take, drop, filter, true≢false, arith, length, ◌≤◌, ◌<◌, ◌+◌, ◌⊎◌, inl, inr, get_or, add-one}
+use Rattle.std.proofs.Common.{Some, None, take, drop, true≢false, length, ◌≤◌, ◌<◌, ◌+◌, ◌⊎◌, inl, inr, get_or, add-one}
 use Rattle.std.proofs.Math.Seq.{drop-cons, drop-length, take-length}
 use Rattle.std.proofs.lemmas.List.{drop_all, drop-append-le, take-append-drop, take-append-le}
 use Rattle.std.proofs.lemmas.Map.Keys.{IsDistinct-head, IsDistinct-tail}
-use Rattle.std.specs.List.{AllByRecursion, IsDistinct, list_any}
+use Rattle.std.specs.List.{AllByRecursion, IsDistinct}
 use Rattle.std.specs.Map.{keys_of, lookup}
-use Rattle.std.specs.Option.{ForSome}
 use Rattle.lr_base.specs.CallLaws.{AreByCall-entered, known_of-entered, none-known, same-tables}
 use Rattle.lr_base.specs.Calls.{AreByCall, by_call, enter_call, up_to_call}
 use Rattle.lr_base.specs.Ascending.{cid_before}

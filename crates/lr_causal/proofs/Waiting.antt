@@ -1,6 +1,6 @@
 -- Queries of which none's label is applied.
-use Rattle.std.proofs.Common.{◌≡◌, ℕ, suc, Bool, true, false, not, List, [], ◌∷◌, ◌++◌, refl, Some, None}
-use Rattle.std.specs.Prelude.{filter, slice_get}
+use Rattle.std.proofs.Common.{◌≡◌, ℕ, suc, Bool, true, false, not, List, [], ◌∷◌, ◌++◌, refl}
+use Rattle.std.specs.Prelude.{filter}
 use Rattle.lr_base.specs.declared.messages.Call.{Call}
 use Rattle.lr_base.specs.Stamps.{stamp_le}
 use Rattle.lr_causal.specs.Causal.{NoneApplied}

@@ -1,5 +1,5 @@
 -- What applying comes to: which updates were executed, and that none that could be was left out.
-use Rattle.std.proofs.Common.{◌≡◌, ◌∙◌, ◌≤◌, ℕ, zero, suc, Bool, true, false, inl, inr, List, [], ◌∷◌, ◌++◌}
+use Rattle.std.proofs.Common.{◌≡◌, ◌∙◌, ◌≤◌, ℕ, zero, suc, Bool, true, false, inl, inr, List, [], ◌∷◌}
 use Rattle.std.proofs.Common.{length, map, take, refl, sym, ap, Option, Some, None, is_some, arith, subst, true≢false}
 use Rattle.std.proofs.Common.{◌||◌}
 use Rattle.std.specs.Prelude.{fold, slice_get}
@@ -12,7 +12,7 @@ use Rattle.lr_base.specs.Calls.{enter_call, enter_calls}
 use Rattle.lr_base.specs.Meaning.{Meaning}
 use Rattle.lr_base.specs.NameLaws.{same_cid-self}
 use Rattle.lr_base.specs.Orders.{IsAmong}
-use Rattle.lr_base.specs.Rules.{Progress, apply_one, apply_ready, is_covered, known_of, same_cid, take_ready, waiting}
+use Rattle.lr_base.specs.Rules.{Progress, apply_one, apply_ready, is_covered, known_of, take_ready, waiting}
 use Rattle.lr_base.specs.Stamps.{stamp_le}
 use Rattle.lr_value.specs.Applied.{all_ready}
 use Rattle.lr_value.specs.Executing.{HasApplied, entry_of}

@@ -1,6 +1,5 @@
 -- Tables of executed calls.
-use Rattle.std.proofs.Common.{◌≡◌, ◌∙◌, Bool, true, false, cond, List, length, Option, Some, refl, subst, sym, ℕ}
-use Rattle.std.proofs.Common.{None}
+use Rattle.std.proofs.Common.{◌≡◌, ◌∙◌, Bool, true, false, cond, List, length, Some, refl, subst, sym, ℕ}
 use Rattle.std.specs.Option.{ForSome}
 use Rattle.lr_base.specs.declared.names.Cid.{Cid}
 use Rattle.lr_base.specs.declared.messages.Known.{Known}

@@ -1,4 +1,4 @@
-use Rattle.std.proofs.Common.{◌≡◌, ◌∙◌, length}
+use Rattle.std.proofs.Common.{◌∙◌, length}
 use Rattle.lr_causal.specs.Tables.{without}
 use Rattle.lr_causal.proofs.Tables.{kept-is, kept-undone}
 use Rattle.lr_causal.proofs.applying.apply_ready.Goals as goal

@@ -1,4 +1,4 @@
-use Rattle.std.proofs.Common.{◌≡◌, ◌∙◌, ap, map}
+use Rattle.std.proofs.Common.{◌∙◌, ap, map}
 use Rattle.lr_causal.proofs.SortedCalls.{sorted_calls}
 use Rattle.lr_causal.proofs.calls.CallTable.cids.Goals as goal
 

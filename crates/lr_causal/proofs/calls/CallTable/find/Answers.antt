@@ -1,4 +1,4 @@
-use Rattle.std.proofs.Common.{◌≡◌, ◌∙◌, ap, sym, Some}
+use Rattle.std.proofs.Common.{◌∙◌, ap, sym, Some}
 use Rattle.lr_base.specs.Rules.{known_of}
 use Rattle.lr_causal.proofs.Tables.{known-by_call, lookup-known_of}
 use Rattle.lr_causal.proofs.calls.CallTable.find.Goals as goal

@@ -1,4 +1,4 @@
-use Rattle.std.proofs.Common.{◌≡◌, ◌∙◌, ap, sym, cond, Some}
+use Rattle.std.proofs.Common.{◌∙◌, ap, sym, cond, Some}
 use Rattle.lr_base.specs.Calls.{enter_call}
 use Rattle.lr_base.specs.Rules.{known_of, same_cid}
 use Rattle.lr_causal.proofs.Tables.{by_call-inserted, lookup-known_of}

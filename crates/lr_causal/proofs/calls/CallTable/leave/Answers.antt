@@ -1,4 +1,4 @@
-use Rattle.std.proofs.Common.{◌≡◌, ◌∙◌, ap, drop, ◌+◌, arith}
+use Rattle.std.proofs.Common.{◌∙◌, ap, drop, ◌+◌, arith}
 use Rattle.lr_causal.specs.Tables.{without}
 use Rattle.lr_causal.proofs.Tables.{leave-done, leave-next}
 use Rattle.lr_causal.proofs.calls.CallTable.leave.Goals as goal

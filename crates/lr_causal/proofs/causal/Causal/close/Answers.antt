@@ -1,7 +1,5 @@
-use Rattle.std.proofs.Common.{◌≡◌, ◌∙◌, Some, ap, length, subst, sym}
-use Rattle.std.specs.Option.{ForSome}
+use Rattle.std.proofs.Common.{◌∙◌, ap, length, subst, sym}
 use Rattle.lr_causal.specs.Causal.{HasSeen, NoneApplied}
-use Rattle.lr_causal.specs.Savepoint.{Lags, Saved}
 use Rattle.lr_value.specs.Remembered.{Remembers}
 use Rattle.lr_causal.proofs.causal.Causal.close.Goals as goal
 

@@ -11,12 +11,12 @@ use Rattle.lr_value.specs.Applied.{Applied, all_ready, progress, progress_at}
 use Rattle.lr_value.specs.Executing.{HasApplied}
 use Rattle.lr_value.specs.Remembered.{Recalls}
 use Rattle.lr_value.specs.Waiting.{AreLeft, behind}
-use Rattle.lr_value.proofs.Ended.{blocked-idle, idle, none-ready-at}
+use Rattle.lr_value.proofs.Ended.{blocked-idle, none-ready-at}
 use Rattle.lr_value.proofs.Executed.{has-applied}
 use Rattle.lr_value.proofs.Facts.{AllFit-logged, AllLogged-along, AllLogged-filter}
 use Rattle.lr_value.proofs.Left.{left-all}
 use Rattle.lr_value.proofs.Numbered.{index-filter}
-use Rattle.lr_value.proofs.Settled.{ready-at, ready-grows, settled-after, settled-before, waiting-received}
+use Rattle.lr_value.proofs.Settled.{ready-at, ready-grows, settled-after, waiting-received}
 use Rattle.lr_value.proofs.value.Value.apply_ready.Goals as goal
 
 -- where it was tested that there is nothing, there is nothing

@@ -1,4 +1,4 @@
-use Rattle.std.proofs.Common.{◌≡◌, ◌∙◌, Some, ap, sym}
+use Rattle.std.proofs.Common.{◌∙◌, Some, ap, sym}
 use Rattle.std.specs.Option.{option_map}
 use Rattle.lr_value.specs.Applied.{Applied, Memory, progress}
 use Rattle.lr_value.proofs.Ended.{idle}
