@@ -1,0 +1,22 @@
+-- This file is made by .ci/laws_of_histories.
+pub mod Terms
+pub mod AQueryDeliveredFourTimes
+pub mod AQueryWaitsForGossip
+pub mod ASecondCallWhileOneIsOpen
+pub mod AWordSentAndRead
+pub mod AnUpdateAndAQuery
+pub mod AnUpdateBeforeItsCause
+pub mod AnUpdateComesBeforeItsCause
+pub mod AnUpdateDeliveredTwice
+pub mod AnUpdateDeliveredTwiceAndASecondOpenCall
+pub mod First
+pub mod LostGossipMadeGood
+pub mod ManyCallsWhileOneIsOpen
+pub mod MessagesThatWereNeverSent
+pub mod NotesWithRepeats
+pub mod OneBoxAtTwoReplicas
+pub mod SixtyFourClients
+pub mod TheLongestNameAndTheGreatestAmounts
+pub mod TwoClientsDontWait
+pub mod TwoClientsOnCountersThatWrap
+pub mod TwoClientsOneCounter
