@@ -71,8 +71,8 @@ pub AreByCall-entered : (e : Cid × Known) (calls : List (Cid × Known)) → kno
 AreByCall-entered e calls none order =
     ascends-inserted (λ x y. false) up_to_call e (λ a b. cid_before a.0 b.0)
     (λ y z. cid-trans e.0 y.0 z.0) calls
-    (each-map _ _ calls (λ y apart t no goes. by_test y apart t goes (cid_before y.0 e.0) refl (cid_before e.0 y.0) refl)
-    (none-known calls e.0 none)) order
+    (each-map _ _ calls (λ y apart t no goes.
+    by_test y apart t goes (cid_before y.0 e.0) refl (cid_before e.0 y.0) refl) (none-known calls e.0 none)) order
   where
     by_test : (y : Cid × Known) → same_cid e.0 y.0 ≡ false → (t : Bool) → up_to_call e y ≡ t → (s : Bool)
         → cid_before y.0 e.0 ≡ s → (r : Bool) → cid_before e.0 y.0 ≡ r
@@ -104,8 +104,8 @@ before-none : (cid : Cid) (calls : List (Cid × Known)) → AllByRecursion (λ e
 before-none cid calls all = known-none calls cid (each-map _ _ calls (λ e. cid-other cid e.0) all)
 
 -- an entry of which something is known stands in the table
-known-among : (P : Cid → Type 0) (calls : List (Cid × Known)) (cid : Cid) (known : Known) → known_of calls cid ≡ Some known
-    → AllByRecursion (λ e. P e.0) calls → P cid
+known-among : (P : Cid → Type 0) (calls : List (Cid × Known)) (cid : Cid) (known : Known)
+    → known_of calls cid ≡ Some known → AllByRecursion (λ e. P e.0) calls → P cid
 known-among P [] cid known is all = let none : None ≡ Some known = is in cc
 known-among P (e ∷ calls) cid known is all = go (same_cid cid e.0) refl (λ is. known-among P calls cid known is all.1)
   where
@@ -142,11 +142,13 @@ same-tables (x ∷ s) (y ∷ t) first second same =
         go false one =
             let there : known_of (y ∷ t) x.0 ≡ Some x.1 = sym (same x.0) ∙ own_first in
             let there' : known_of t x.0 ≡ Some x.1 = rw one at there in
-            let low : cid_before y.0 x.0 ≡ true = known-among (λ c. cid_before y.0 c ≡ true) t x.0 x.1 there' second.0 in
+            let low : cid_before y.0 x.0 ≡ true =
+            known-among (λ c. cid_before y.0 c ≡ true) t x.0 x.1 there' second.0 in
             let other : same_cid y.0 x.0 ≡ false = cid-other y.0 x.0 low in
             let here : known_of (x ∷ s) y.0 ≡ Some y.1 = same y.0 ∙ own_second in
             let here' : known_of s y.0 ≡ Some y.1 = rw other at here in
-            let high : cid_before x.0 y.0 ≡ true = known-among (λ c. cid_before x.0 c ≡ true) s y.0 y.1 here' first.0 in
+            let high : cid_before x.0 y.0 ≡ true =
+            known-among (λ c. cid_before x.0 c ≡ true) s y.0 y.1 here' first.0 in
             absurd (cid-apart x.0 x.0 (cid-trans x.0 y.0 x.0 high low) refl)
 
     heads : x ≡ y
@@ -160,8 +162,8 @@ same-tables (x ∷ s) (y ∷ t) first second same =
     tails cid true one =
         let is = same_cid-is cid x.0 one in
         subst (λ c. known_of s c ≡ known_of t c) (sym is)
-        (before-none x.0 s first.0 ∙ sym (before-none x.0 t (subst (λ c. AllByRecursion (λ e. cid_before c e.0 ≡ true) t)
-        (sym keys) second.0)))
+        (before-none x.0 s first.0 ∙ sym (before-none x.0 t
+        (subst (λ c. AllByRecursion (λ e. cid_before c e.0 ≡ true) t) (sym keys) second.0)))
     tails cid false one =
         let one' : same_cid cid y.0 ≡ false = subst (λ c. same_cid cid c ≡ false) keys one in
         let all = same cid in

@@ -23,10 +23,10 @@ pub(crate) fn apply_ready<S: Service>(
     // what is applied
     ensures ok { OnOk result
         (progress value.new calls.new ≡ all_ready S.meaning log.now.updates (progress value.old calls.old)) }
-    ensures settled { OnOk result (IsSettledAt received.now log.now.updates value.new) }
+    ensures settled { OnOk result (IsSettledAt received.now log.now.updates value.new
+        × GoesOn (progress value.old calls.old) (progress value.new calls.new)) }
     ensures older { IfOk result (IsOlderOf (progress value.old calls.old) (progress value.new calls.new)) }
     // what stays, and can be taken out again
-    ensures goes_on { OnOk result (GoesOn (progress value.old calls.old) (progress value.new calls.new)) }
     ensures err { OnErr result
         ((value.new ≡ value.old) × (calls.new ≡ calls.old) × (entered.new.items ≡ entered.old.items)) }
     ensures undo { without entered.new.items calls.new ≡ without entered.old.items calls.old }

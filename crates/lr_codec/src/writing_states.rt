@@ -200,8 +200,8 @@ fn put_lists<S: Legible>(state: &StableState<S>, out: &mut Text) -> Result<(), N
     requires { length state.now.entries ≤ 64 }
     ensures ok { OnOk result (out.new
         ≡ out.old ++ (lists_format S.meaning S.op_of 0 [] true).written (lists_of state.now)) }
-    ensures real { OnOk result ((list_all (is_own_update S.meaning) state.now.updates && (list_all (is_own_entry S.meaning) state.now.entries
-        && is_own_frozen S.meaning state.now.frozen)) ≡ true) }
+    ensures real { OnOk result ((list_all (is_own_update S.meaning) state.now.updates
+        && (list_all (is_own_entry S.meaning) state.now.entries && is_own_frozen S.meaning state.now.frozen)) ≡ true) }
 {
     put_log::<S>(state.updates.as_slice(), state.acks.as_slice(), out)?;
     put_calls(state.calls.as_slice(), out)?;

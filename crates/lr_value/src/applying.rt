@@ -85,8 +85,8 @@ pub(crate) fn apply_all<'a, S: Service, E: Executed>(
     calls: &mut E,
     waiting: Vec<&'a LogUpdate<S::Op>>,
 ) -> Result<Vec<&'a LogUpdate<S::Op>>, NoMemory>
-    requires logged { AllLogged S.Op.kind_of (length draft.old.val_ts) (behind waiting.items) }
-    requires in_order { AreInOrder (λ u. u.spot) (behind waiting.items) }
+    requires { AllLogged S.Op.kind_of (length draft.old.val_ts) (behind waiting.items)
+        × AreInOrder (λ u. u.spot) (behind waiting.items) }
     ensures ok { let todo = behind waiting.entry.items in
         OnOk result (progress_at draft.new.value draft.new.val_ts (E.known calls.new)
         ≡ rule S.meaning (length todo) todo (progress_at draft.old.value draft.old.val_ts (E.known calls.old))) }

@@ -136,8 +136,8 @@ impl<S: Service> Value<S> {
             (IsOlderOf (progress self.old (E.known calls.old)) (progress self.new (E.known calls.new))) }
         // what stays, also where memory ends
         ensures stays { OnErr result (self.new ≡ self.old)
-            × GoesOn (progress self.old (E.known calls.old)) (progress self.new (E.known calls.new)) }
-        ensures kept { E.kept calls.new ≡ E.kept calls.old }
+            × GoesOn (progress self.old (E.known calls.old)) (progress self.new (E.known calls.new))
+            × (E.kept calls.new ≡ E.kept calls.old) }
     {
         if self.is_settled(log, received) {
             return Ok(None);

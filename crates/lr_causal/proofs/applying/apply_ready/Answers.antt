@@ -11,7 +11,7 @@ returns-in-Ok-clause-undo g c =
     let count = c.new-entering.ensures.before ∙ (λ i. length (c.replace-noted.ensures.value i).items) in
     let table = c.new-entering.ensures.table ∙ c.replace-table.ensures.value in
     let kept = kept-is last.before first.before last.entered.items c.args.entered.now.items first.entered.items last.table
-    c.args.calls.now first.table noted count table c.in-Ok.ensures.kept in
+    c.args.calls.now first.table noted count table c.in-Ok.ensures.stays.2 in
     (λ i. without (c.end.ensures.entered i) (c.end.ensures.table i))
     ∙ kept-undone last.before last.entered.items c.args.entered.now.items last.table c.args.calls.now kept.0 kept.1
 
@@ -23,7 +23,7 @@ returns-in-Err-clause-err g c =
     let count = c.new-entering.ensures.before ∙ (λ i. length (c.replace-noted.ensures.value i).items) in
     let table = c.new-entering.ensures.table ∙ c.replace-table.ensures.value in
     let kept = kept-is last.before first.before last.entered.items c.args.entered.now.items first.entered.items last.table
-    c.args.calls.now first.table noted count table c.in-Err.ensures.kept in (
+    c.args.calls.now first.table noted count table c.in-Err.ensures.stays.2 in (
       c.in-Err.ensures.stays.0,
       c.end-in-Err.ensures.table ∙ c.undo.ensures.table ∙ kept.1,
       c.end-in-Err.ensures.entered ∙ c.undo.ensures.entered ∙ kept.0,

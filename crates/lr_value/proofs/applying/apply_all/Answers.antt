@@ -14,7 +14,7 @@ use Rattle.lr_value.proofs.applying.apply_all.Goals as goal
 
 pub of-requires-clause-fit : goal.of-requires-clause-fit
 of-requires-clause-fit g c =
-    AllFit-logged g.S.Op.Operation.kind_of _ _ (behind c.args.waiting.items) _ refl refl c.requires.logged
+    AllFit-logged g.S.Op.Operation.kind_of _ _ (behind c.args.waiting.items) _ refl refl c.requires.0
 
 pub loop-update-init : goal.loop-update-init
 loop-update-init g c = record {
@@ -26,7 +26,7 @@ loop-update-init g c = record {
   of_left = left-all c.args.draft.now.val_ts (behind c.args.waiting.items);
   goes_on = stays (progress_at c.args.draft.now.value c.args.draft.now.val_ts (g.E.Executed.known c.args.calls.now));
   kept = refl;
-  logged = c.requires.logged;
+  logged = c.requires.0;
 }
 
 pub execute-requires : goal.execute-requires

@@ -48,21 +48,21 @@ invariant_of-self-clause-waits g c known =
 -- ---- where something is applied
 
 pub invariant_of-self-in-Some-clause-val_parts : goal.invariant_of-self-in-Some-clause-val_parts
-invariant_of-self-in-Some-clause-val_parts g c = c.in-Ok.ensures.goes_on.parts ∙ c.args.self.now.val_parts
+invariant_of-self-in-Some-clause-val_parts g c = c.in-Ok.ensures.settled.1.parts ∙ c.args.self.now.val_parts
 
 pub invariant_of-self-in-Some-clause-known : goal.invariant_of-self-in-Some-clause-known
 invariant_of-self-in-Some-clause-known g c =
     let it = c.args.self.now in
     subst (λ n. AllKnown n c.apply_ready.new.calls) it.val_parts
-    (c.in-Ok.ensures.goes_on.known (subst (λ n. AllKnown n it.calls) (sym it.val_parts) it.known))
+    (c.in-Ok.ensures.settled.1.known (subst (λ n. AllKnown n it.calls) (sym it.val_parts) it.known))
 
 pub invariant_of-self-in-Some-clause-remembers : goal.invariant_of-self-in-Some-clause-remembers
-invariant_of-self-in-Some-clause-remembers g c = c.in-Ok.ensures.settled.remembers
+invariant_of-self-in-Some-clause-remembers g c = c.in-Ok.ensures.settled.0.remembers
 
 pub invariant_of-self-in-Some-clause-seen : goal.invariant_of-self-in-Some-clause-seen
 invariant_of-self-in-Some-clause-seen g c =
     let it = c.args.self.now in
-    HasSeen-looked it.rep_ts it.rep_ts c.apply_ready.new.value.memory refl c.in-Ok.ensures.settled.looked
+    HasSeen-looked it.rep_ts it.rep_ts c.apply_ready.new.value.memory refl c.in-Ok.ensures.settled.0.looked
 
 pub returns-in-Some-clause-point : goal.returns-in-Some-clause-point
 returns-in-Some-clause-point g c before point =
@@ -81,21 +81,21 @@ returns-in-Some-clause-point g c before point =
 -- ---- where nothing is
 
 pub invariant_of-self-in_default-older-clause-val_parts : goal.invariant_of-self-in_default-older-clause-val_parts
-invariant_of-self-in_default-older-clause-val_parts g c = c.in-Ok.ensures.goes_on.parts ∙ c.args.self.now.val_parts
+invariant_of-self-in_default-older-clause-val_parts g c = c.in-Ok.ensures.settled.1.parts ∙ c.args.self.now.val_parts
 
 pub invariant_of-self-in_default-older-clause-known : goal.invariant_of-self-in_default-older-clause-known
 invariant_of-self-in_default-older-clause-known g c =
     let it = c.args.self.now in
     subst (λ n. AllKnown n c.apply_ready.new.calls) it.val_parts
-    (c.in-Ok.ensures.goes_on.known (subst (λ n. AllKnown n it.calls) (sym it.val_parts) it.known))
+    (c.in-Ok.ensures.settled.1.known (subst (λ n. AllKnown n it.calls) (sym it.val_parts) it.known))
 
 pub invariant_of-self-in_default-older-clause-remembers : goal.invariant_of-self-in_default-older-clause-remembers
-invariant_of-self-in_default-older-clause-remembers g c = c.in-Ok.ensures.settled.remembers
+invariant_of-self-in_default-older-clause-remembers g c = c.in-Ok.ensures.settled.0.remembers
 
 pub invariant_of-self-in_default-older-clause-seen : goal.invariant_of-self-in_default-older-clause-seen
 invariant_of-self-in_default-older-clause-seen g c =
     let it = c.args.self.now in
-    HasSeen-looked it.rep_ts it.rep_ts c.apply_ready.new.value.memory refl c.in-Ok.ensures.settled.looked
+    HasSeen-looked it.rep_ts it.rep_ts c.apply_ready.new.value.memory refl c.in-Ok.ensures.settled.0.looked
 
 pub invariant_of-self-in_default-older-clause-waits : goal.invariant_of-self-in_default-older-clause-waits
 invariant_of-self-in_default-older-clause-waits g c known =

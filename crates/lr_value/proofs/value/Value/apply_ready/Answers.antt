@@ -98,12 +98,14 @@ returns-then-not-is_one_ready-clause-settled g c =
     (none-ready-at m updates p p (sym (blocked-idle m _ (waiting val_ts updates) p none))) left
     c.in_ok-memory.ensures.seen c.in_ok-memory.ensures.waits refl refl
 
-pub apply_all-requires-clause-logged : goal.apply_all-requires-clause-logged
-apply_all-requires-clause-logged g c =
-    let updates = g.L.Places.updates c.args.log.now in
-    AllLogged-along g.S.Op.Operation.kind_of _ _ (waiting c.self.inside.val_ts updates) _
-    c.in_ok-waiting.ensures.waiting (ap length c.in_ok-draft.ensures.val_ts)
-    (AllLogged-filter g.S.Op.Operation.kind_of _ _ updates c.requires.logged)
+pub apply_all-requires : goal.apply_all-requires
+apply_all-requires g c =
+    let updates = g.L.Places.updates c.args.log.now in (
+      AllLogged-along g.S.Op.Operation.kind_of _ _ (waiting c.self.inside.val_ts updates) _
+          c.in_ok-waiting.ensures.waiting (ap length c.in_ok-draft.ensures.val_ts)
+          (AllLogged-filter g.S.Op.Operation.kind_of _ _ updates c.requires.logged),
+      c.in_ok-waiting.ensures.in_order,
+    )
 
 pub of-requires-2-clause-in_order : goal.of-requires-2-clause-in_order
 of-requires-2-clause-in_order g c =
