@@ -106,7 +106,7 @@ fn put_seq(cid: Cid, out: &mut String) -> Result<(), AllocError> {
     write!(out, "{seq}")
 }
 
-/// Adds the numbers of the executed calls behind `out`, in the order of execution.
+/// Adds the numbers of the executed calls behind `out`, in their order.
 pub fn put_executed(alloc: Global, replica: &Causal<Tally>, out: &mut String) -> Result<(), Fault> {
     let cids = replica.calls().cids(alloc)?;
     for cid in &cids {
