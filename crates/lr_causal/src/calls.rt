@@ -67,7 +67,8 @@ impl CallTable {
 
     /// The executed calls, ascending.
     pub fn cids(&self, alloc: Global) -> Result<Vec<Cid>, NoMemory>
-        ensures { IfOk result (λ cids. cids.items ≡ map (λ e. e.0) self.now) }
+        ensures cids { IfOk result (λ cids. cids.items ≡ map (λ e. e.0) self.now) }
+        ensures in_order { AreByCall self.now }
     {
         let mut cids = keys_of(&self.known, alloc)?;
         cids.sort_unstable();

@@ -7,7 +7,7 @@ use Rattle.lr_base.specs.declared.messages.Known.{Known}
 use Rattle.lr_base.specs.declared.messages.LogUpdate.{LogUpdate}
 use Rattle.lr_base.specs.Logged.{AllKnown}
 use Rattle.lr_base.specs.Meaning.{Meaning}
-use Rattle.lr_base.specs.Rules.{Progress, apply_ready, waiting}
+use Rattle.lr_base.specs.Rules.{Progress, apply_ready, known_of, waiting}
 
 -- how many items of each place a log had that was looked through, and the spots of the updates that waited in it
 pub record Memory : Type 0 where
@@ -38,9 +38,12 @@ progress applied calls = progress_at applied.value applied.val_ts calls
 abbrev pub all_ready : {Value Op : Type 0} → Meaning Value Op → List (LogUpdate Op) → Progress Value → Progress Value
 all_ready m updates p = let todo = waiting p.val_ts updates in apply_ready m (length todo) todo p
 
--- applying went on, however far: the stamp has its parts, and stamps of calls have those parts too
+-- applying went on, however far: the stamp has its parts, no call left the table and of each is known what was, and
+-- stamps of calls have those parts too
 pub record GoesOn {Value : Type 0} (before after : Progress Value) : Type 0 where
   pub parts : length after.val_ts ≡ length before.val_ts
+  pub stays : (cid : Cid) (known : Known)
+      → known_of before.calls cid ≡ Some known → known_of after.calls cid ≡ Some known
   pub known : AllKnown (length before.val_ts) before.calls → AllKnown (length before.val_ts) after.calls
 
 -- nothing was applied, or else the older value is that of before, and comes to that of after

@@ -122,3 +122,11 @@ returns-clause-left g c =
       λ among. old.table.held u ((held u).0 among),
     )) in
     rw (← same) old.of_left) c.rest.ensures.in_order (rw (c.in_default.ensures.unchanged refl) at c.rest.ensures.held)
+
+pub returns-in_err-execute-clause-goes_on : goal.returns-in_err-execute-clause-goes_on
+returns-in_err-execute-clause-goes_on g c =
+    goes_further
+    (progress_at c.args.draft.now.value c.args.draft.now.val_ts (g.E.Executed.known c.args.calls.now))
+    (progress_at c.loop-update.draft.value c.loop-update.draft.val_ts (g.E.Executed.known c.loop-update.calls))
+    (progress_at c.execute.new.draft.value c.execute.new.draft.val_ts (g.E.Executed.known c.execute.new.calls))
+    c.loop-update.invariant.goes_on c.in_err-execute.ensures.goes_on
