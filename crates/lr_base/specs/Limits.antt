@@ -1,7 +1,7 @@
 -- Limits: how much of each thing there may be, in the program's constants. Each is pinned to its numeral.
 use Rattle.std.specs.Prelude.{◌≡◌, ◌+◌, ◌^◌, ℕ, refl}
 use Rattle.lr_base.specs.declared.limits.TheConstants.{MOST_REPLICAS, MOST_CLIENTS, MOST_PARTS, LOG_ROOM, HELD_ROOM}
-use Rattle.lr_base.specs.declared.limits.TheConstants.{MOST_SCRIPT_BYTES, LAST_NUMBER}
+use Rattle.lr_base.specs.declared.limits.TheConstants.{ORDER_ROOM, MOST_SCRIPT_BYTES, LAST_NUMBER}
 
 -- how many replicas a run has at the most
 abbrev pub most_replicas : ℕ
@@ -37,6 +37,13 @@ held_room = HELD_ROOM
 
 pub held_room-is : held_room ≡ 1024
 held_room-is = refl
+
+-- how many entries an order log may hold before a new one is refused
+abbrev pub order_room : ℕ
+order_room = ORDER_ROOM
+
+pub order_room-is : order_room ≡ 64
+order_room-is = refl
 
 -- how many bytes a script has at the most
 abbrev pub most_script_bytes : ℕ

@@ -3,15 +3,9 @@ use Rattle.std.proofs.Common.{◌≡◌, ◌≢◌, ◌⊎◌, inl, inr, Bool, t
 use Rattle.std.proofs.Common.{subst}
 use Rattle.lr_base.specs.Kinds.{are_ordered}
 use Rattle.lr_base.specs.Meaning.{Lawful, Meaning}
-use Rattle.lr_base.specs.Orders.{AgreeUnlessCommuting, AgreeWhereOrdered, AreUpdates, Commute, HasEachOnce}
-use Rattle.lr_base.specs.Orders.{HasSameUpdates, IsAmong, IsBefore, Keyed, apply_all}
+use Rattle.lr_base.specs.Orders.{AgreeWhereOrdered, AreUpdates, Commute, HasEachOnce}
+use Rattle.lr_base.specs.Orders.{HasSameUpdates, IsAmong, IsBefore, Keyed, OppositesCommute, apply_all}
 use Rattle.lr_base.specs.declared.lr_service.Kind.{Kind}
-
--- two updates that stand in opposite order commute
-abbrev pub OppositesCommute : {Value Op Key : Type 0} → Meaning Value Op → List (Keyed Key Op) → List (Keyed Key Op)
-    → Type 0
-OppositesCommute {Value} {Op} {Key} m one other =
-    (a b : Keyed Key Op) → IsBefore a b one → IsBefore b a other → Commute m a.op b.op
 
 -- ---- which stands before which
 
@@ -156,15 +150,6 @@ module _ {Value Op Key : Type 0} (m : Meaning Value Op) where
                     (ap (λ (w : Keyed Key Op). w.key) e))
                 | inr rest ↦ rest
               ]
-
-  -- orders that agree unless updates commute
-  pub agreeing-opposites : (one other : List (Keyed Key Op)) → HasSameUpdates one other
-      → AgreeUnlessCommuting m one other → OppositesCommute m one other
-  agreeing-opposites one other same agree a b first second =
-      elim (agree a b (before-first a b one first) (before-second a b one first)) [
-        | inl commute ↦ commute
-        | inr kept ↦ absurd (before-once a b other same.other_once (kept first) second)
-      ]
 
   -- orders that agree where kinds need one order
   pub ordered-opposites : (kind_of : Op → Kind) → Lawful m kind_of → (one other : List (Keyed Key Op))

@@ -39,11 +39,11 @@ apply_all m v (first ∷ rest) = apply_all m (m.apply v first.op) rest
 abbrev pub Commute : {Value Op : Type 0} → Meaning Value Op → Op → Op → Type 0
 Commute {Value} m a b = (v : Value) → m.apply (m.apply v a) b ≡ m.apply (m.apply v b) a
 
--- each two updates of an order commute, or the other order agrees on them
-abbrev pub AgreeUnlessCommuting : {Value Op Key : Type 0} → Meaning Value Op → List (Keyed Key Op)
-    → List (Keyed Key Op) → Type 0
-AgreeUnlessCommuting {Value} {Op} {Key} m one other =
-    (a b : Keyed Key Op) → IsAmong a one → IsAmong b one → Commute m a.op b.op ⊎ (IsBefore a b one → IsBefore a b other)
+-- two updates commute of which one order has the first before the second, and the other the second before the first
+abbrev pub OppositesCommute : {Value Op Key : Type 0} → Meaning Value Op → List (Keyed Key Op) → List (Keyed Key Op)
+    → Type 0
+OppositesCommute {Value} {Op} {Key} m one other =
+    (a b : Keyed Key Op) → IsBefore a b one → IsBefore b a other → Commute m a.op b.op
 
 -- the other order agrees on each two updates whose kinds need one order
 abbrev pub AgreeWhereOrdered : {Value Op Key : Type 0} → Meaning Value Op → List (Keyed Key Op) → List (Keyed Key Op)

@@ -26,6 +26,7 @@ pub use executed::Executed;
 pub use laws::{join_is_least, order_of_stamps, set_part_changes_one};
 pub use limits::{
     HELD_ROOM, LAST_NUMBER, LOG_ROOM, MOST_CLIENTS, MOST_PARTS, MOST_REPLICAS, MOST_SCRIPT_BYTES,
+    ORDER_ROOM,
 };
 pub use messages::{Call, Entry, Fresh, Gossip, Known, LogAck, LogUpdate, Message};
 pub use names::{Actor, Cid, Config, Spot};

@@ -15,6 +15,9 @@ pub const LOG_ROOM: usize = 512;
 /// How many queries a replica may hold before a new one is refused.
 pub const HELD_ROOM: usize = 1_024;
 
+/// How many entries an order log may hold before a new one is refused.
+pub const ORDER_ROOM: u32 = 64;
+
 /// The most bytes that a script has.
 pub const MOST_SCRIPT_BYTES: usize = 8_388_608;
 

@@ -1,6 +1,8 @@
 //! The names of clients, replicas, calls and places, and the numbers that a run is set up with.
-ghost use Rattle.std.specs.Prelude.{◌↔◌, IsTrue};
+ghost use Rattle.std.specs.Prelude.{◌≡◌, ◌↔◌, IsTrue};
+ghost use Rattle.lr_base.specs.Ascending.{cid_before};
 ghost use Rattle.lr_base.specs.Config.{IsValid};
+ghost use Rattle.lr_base.specs.Rules.{is_before as spot_before};
 
 use crate::limits::{MOST_CLIENTS, MOST_REPLICAS};
 
@@ -36,11 +38,29 @@ pub struct Cid {
     pub seq: u64,
 }
 
+impl Cid {
+    /// Whether this call comes before another, by client and then by count.
+    pub fn is_before(self, other: Cid) -> bool
+        ensures { result ≡ cid_before self other }
+    {
+        self.client < other.client || self.client == other.client && self.seq < other.seq
+    }
+}
+
 /// Where an update was accepted: a replica's place, and that place's count, from 1.
 #[derive(Clone, Copy, PartialEq, Eq, PartialOrd, Ord)]
 pub struct Spot {
     pub place: u8,
     pub number: u64,
+}
+
+impl Spot {
+    /// Whether this spot comes before another, by place and then by number.
+    pub fn is_before(self, other: Spot) -> bool
+        ensures { result ≡ spot_before self other }
+    {
+        self.place < other.place || self.place == other.place && self.number < other.number
+    }
 }
 
 /// Who sends or receives a message.

@@ -3,11 +3,12 @@ use Rattle.std.proofs.Common.{◌≡◌, ◌<◌, ◌≤◌, ◌+◌, ℕ, suc, 
 use Rattle.std.proofs.Common.{drop, refl, sym, ◌∙◌, ap, append_assoc, add-one, drop-cons, flat_map, arith}
 use Rattle.std.proofs.lemmas.List.{drop_all}
 use Rattle.lr_base.specs.Bytes.{Bytes}
+use Rattle.lr_base.specs.Rules.{is_before}
 use Rattle.lr_base.specs.declared.messages.LogAck.{LogAck}
 use Rattle.lr_base.specs.declared.messages.LogUpdate.{LogUpdate}
 use Rattle.lr_codec.specs.declared.items.Item.{Item}
 use Rattle.lr_codec.specs.declared.items.Item.TheVariants.{Update, Ack}
-use Rattle.lr_codec.specs.Lists.{merged, only_acks, placed, spot_before}
+use Rattle.lr_codec.specs.Lists.{merged, only_acks, placed}
 
 -- a list from an index on
 cut-at : {A : Type 0} (xs : List A) (i : ℕ) (d : A) → i < length xs → drop i xs ≡ get_or xs i d ∷ drop (i + 1) xs
@@ -35,7 +36,7 @@ module _ {Op : Type 0} (bytes : Item Op → Bytes) where
   module _ (u : LogUpdate Op) (acks : List LogAck) (behind : List LogAck → List (Item Op)) where
     -- the acknowledgement at an index, which stands before the update
     pub ack-before : (i : ℕ) (d : LogAck) (out new : Bytes) → i < length acks
-        → spot_before (get_or acks i d).spot u.spot ≡ true → new ≡ out ++ bytes (Ack (get_or acks i d))
+        → is_before (get_or acks i d).spot u.spot ≡ true → new ≡ out ++ bytes (Ack (get_or acks i d))
         → new ++ flat_map bytes (placed u (drop (i + 1) acks) behind)
         ≡ out ++ flat_map bytes (placed u (drop i acks) behind)
     ack-before i d out new below before put =
@@ -46,7 +47,7 @@ module _ {Op : Type 0} (bytes : Item Op → Bytes) where
         (Update u ∷ behind (get_or acks i d ∷ rest)))) before)
 
     -- the update before the acknowledgement at an index
-    pub update-here : (i : ℕ) (d : LogAck) → i < length acks → spot_before (get_or acks i d).spot u.spot ≡ false
+    pub update-here : (i : ℕ) (d : LogAck) → i < length acks → is_before (get_or acks i d).spot u.spot ≡ false
         → Update u ∷ behind (drop i acks) ≡ placed u (drop i acks) behind
     update-here i d below after =
         let rest = drop (i + 1) acks in
@@ -81,7 +82,7 @@ module _ {Op : Type 0} (u : LogUpdate Op) (behind : List LogAck → List (Item O
       → length (placed u acks behind) ≡ suc count + length acks
   length-placed are [] = omega (arith, are [])
   length-placed are (a ∷ acks) =
-      length-choice (spot_before a.spot u.spot) a acks (length-placed are acks) (are (a ∷ acks))
+      length-choice (is_before a.spot u.spot) a acks (length-placed are acks) (are (a ∷ acks))
 
 -- how many items two lists in one have
 pub length-merged : {Op : Type 0} (updates : List (LogUpdate Op)) (acks : List LogAck)

@@ -4,12 +4,12 @@ use Rattle.std.specs.Prelude.{None, Option, nat_le}
 use Rattle.std.proofs.lemmas.Bool.{and_parts, leb-true}
 use Rattle.lr_base.specs.Bytes.{Bytes}
 use Rattle.lr_base.specs.Formats.{Format, both, leading, listed, number_format, number_of, repeated}
-use Rattle.lr_base.specs.Limits.{last_number}
+use Rattle.lr_base.specs.Limits.{last_number, order_room}
 use Rattle.lr_base.specs.Meaning.{Meaning}
 use Rattle.lr_base.specs.Stamps.{part}
 use Rattle.lr_base.specs.declared.messages.Call.{Call}
 use Rattle.lr_base.specs.declared.messages.Entry.{Entry}
-use Rattle.lr_codec.specs.Lists.{calls_format, entry_count_format, entry_format, log_format, marks_format, most_entries}
+use Rattle.lr_codec.specs.Lists.{calls_format, entry_count_format, entry_format, log_format, marks_format}
 use Rattle.lr_codec.specs.Lists.{order_format}
 use Rattle.lr_codec.specs.Parts.{value_format}
 use Rattle.lr_codec.specs.Ranges.{is_in_ranges, unchecked}
@@ -28,7 +28,7 @@ module _ {V Op : Type 0} (m : Meaning V Op) (s : StableState V Op) where
       marks_format
 
   -- the order log of a state in the ranges isn't too long
-  pub few-entries : is_in_ranges m s ≡ true → length s.entries ≤ most_entries
+  pub few-entries : is_in_ranges m s ≡ true → length s.entries ≤ order_room
   few-entries is =
       let u = unchecked m in
       let n = s.replicas in
@@ -50,6 +50,6 @@ module _ {V Op : Type 0} (m : Meaning V Op) (s : StableState V Op) where
       let seven = and_parts ((entry_count_format s.base).is_value (length s.entries))
       ((repeated entry (length s.entries)).is_value s.entries) six.1 in
       let eight = and_parts ((number_of 4).is_value (length s.entries))
-      (nat_le (length s.entries) most_entries && nat_le (s.base + length s.entries) last_number) seven.0 in
-      leb-true _ _ (and_parts (nat_le (length s.entries) most_entries)
+      (nat_le (length s.entries) order_room && nat_le (s.base + length s.entries) last_number) seven.0 in
+      leb-true _ _ (and_parts (nat_le (length s.entries) order_room)
       (nat_le (s.base + length s.entries) last_number) eight.1).0

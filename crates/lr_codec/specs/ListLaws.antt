@@ -14,6 +14,8 @@ use Rattle.lr_base.specs.Formats.{Format, IsExactFormat, number_of, number_forma
 use Rattle.lr_base.specs.Formats.{known_test, keyed, listed, repeated}
 use Rattle.lr_base.specs.Kinds.{is_immediate}
 use Rattle.lr_base.specs.Meaning.{Meaning, Lawful, IsLegible}
+use Rattle.lr_base.specs.NameLaws.{before-once, before-trans}
+use Rattle.lr_base.specs.Rules.{is_before}
 use Rattle.lr_base.specs.Stamps.{Stamp}
 use Rattle.lr_base.specs.declared.bytes.BadWhat.TheVariants.{Range}
 use Rattle.lr_base.specs.declared.lr_service.Kind.{Kind}
@@ -27,18 +29,10 @@ use Rattle.lr_codec.specs.Parts.{byte_where, part_format, item_number_format, st
 use Rattle.lr_codec.specs.Parts.{op_format}
 use Rattle.lr_codec.specs.PartLaws.{byte-exact, number_where-exact, part-exact, item_number-exact, stamp-exact}
 use Rattle.lr_codec.specs.PartLaws.{cid-exact, op-exact}
-use Rattle.lr_codec.specs.Lists.{spot_before, spot_of, is_next_spot, tag_format, place_format, received_format}
+use Rattle.lr_codec.specs.Lists.{spot_of, is_next_spot, tag_format, place_format, received_format}
 use Rattle.lr_codec.specs.Lists.{spot_format, rest_format, item_parts, item_with, item_format, updates_of, acks_of}
 use Rattle.lr_codec.specs.Lists.{only_acks, placed, merged, log_format, is_next_cid, known_format, calls_format}
 use Rattle.lr_codec.specs.Lists.{entry_format, entry_count_format, order_format, marks_format}
-
--- of two spots, the first doesn't stand behind itself or behind one that it stands before
-spot-asym : (a b : Spot) → spot_before a b ≡ true → spot_before b a ≡ false
-spot-asym a b is = grind (arith, nat_tests)
-
--- what stands before a spot stands before those behind that
-spot-trans : (a b c : Spot) → spot_before a b ≡ true → spot_before b c ≡ true → spot_before a c ≡ true
-spot-trans a b c first second = grind (arith, nat_tests)
 
 module _ (Op : Type 0) where
   -- acknowledgements alone have no updates
@@ -69,7 +63,7 @@ module _ (Op : Type 0) where
       (updates : List (LogUpdate Op)) → ((rest : List LogAck) → updates_of (behind rest) ≡ updates)
       → updates_of (placed u acks behind) ≡ u ∷ updates
   updates-placed u [] behind updates are = ap (λ (l : List (LogUpdate Op)). u ∷ l) (are [])
-  updates-placed u (a ∷ acks) behind updates are = updates-choice (spot_before a.spot u.spot) u a
+  updates-placed u (a ∷ acks) behind updates are = updates-choice (is_before a.spot u.spot) u a
       (placed u acks behind) (Update u ∷ behind (a ∷ acks)) (u ∷ updates) (updates-placed u acks behind updates are)
       (ap (λ (l : List (LogUpdate Op)). u ∷ l) (are (a ∷ acks)))
 
@@ -77,7 +71,7 @@ module _ (Op : Type 0) where
   acks-placed : (u : LogUpdate Op) (acks : List LogAck) (behind : List LogAck → List (Item Op))
       → ((rest : List LogAck) → acks_of (behind rest) ≡ rest) → acks_of (placed u acks behind) ≡ acks
   acks-placed u [] behind are = are []
-  acks-placed u (a ∷ acks) behind are = acks-choice (spot_before a.spot u.spot) a (placed u acks behind)
+  acks-placed u (a ∷ acks) behind are = acks-choice (is_before a.spot u.spot) a (placed u acks behind)
       (Update u ∷ behind (a ∷ acks)) acks (acks-placed u acks behind are) (are (a ∷ acks))
 
   -- two lists in one have these updates
@@ -94,18 +88,18 @@ module _ (Op : Type 0) where
 -- a spot stands before that of the first update, if there is one
 abbrev before_update : {Op : Type 0} → Spot → List (LogUpdate Op) → Bool
 before_update spot [] = true
-before_update spot (u ∷ updates) = spot_before spot u.spot
+before_update spot (u ∷ updates) = is_before spot u.spot
 
 -- and before that of the first acknowledgement
 abbrev before_ack : Spot → List LogAck → Bool
 before_ack spot [] = true
-before_ack spot (a ∷ acks) = spot_before spot a.spot
+before_ack spot (a ∷ acks) = is_before spot a.spot
 
 -- what stands before a spot stands before the first acknowledgement behind that
-earlier-ack : (a b : Spot) (acks : List LogAck) → spot_before a b ≡ true → before_ack b acks ≡ true
+earlier-ack : (a b : Spot) (acks : List LogAck) → is_before a b ≡ true → before_ack b acks ≡ true
     → before_ack a acks ≡ true
 earlier-ack a b [] first second = refl
-earlier-ack a b (k ∷ acks) first second = spot-trans a b k.spot first second
+earlier-ack a b (k ∷ acks) first second = before-trans a b k.spot first second
 
 module _ {Op : Type 0} where
   -- items in strict order of their spots
@@ -114,10 +108,10 @@ module _ {Op : Type 0} where
   are_behind last (item ∷ items) = is_next_spot last (spot_of item) && are_behind (Some item) items
 
   -- what stands before a spot stands before the first update behind that
-  earlier-update : (a b : Spot) (updates : List (LogUpdate Op)) → spot_before a b ≡ true
+  earlier-update : (a b : Spot) (updates : List (LogUpdate Op)) → is_before a b ≡ true
       → before_update b updates ≡ true → before_update a updates ≡ true
   earlier-update a b [] first second = refl
-  earlier-update a b (u ∷ updates) first second = spot-trans a b u.spot first second
+  earlier-update a b (u ∷ updates) first second = before-trans a b u.spot first second
 
   -- an item stands before the first update behind it
   first-update : (item : Item Op) (items : List (Item Op)) → are_behind (Some item) items ≡ true
@@ -125,7 +119,7 @@ module _ {Op : Type 0} where
   first-update item [] are = refl
   first-update item (Update u ∷ items) are = (and_parts _ (are_behind (Some (Update u)) items) are).0
   first-update item (Ack a ∷ items) are =
-      let parts = and_parts (spot_before (spot_of item) a.spot) (are_behind (Some (Ack a)) items) are in
+      let parts = and_parts (is_before (spot_of item) a.spot) (are_behind (Some (Ack a)) items) are in
       earlier-update (spot_of item) a.spot (updates_of items) parts.0 (first-update (Ack a) items parts.1)
 
   -- and before the first acknowledgement
@@ -134,7 +128,7 @@ module _ {Op : Type 0} where
   first-ack item [] are = refl
   first-ack item (Ack a ∷ items) are = (and_parts _ (are_behind (Some (Ack a)) items) are).0
   first-ack item (Update u ∷ items) are =
-      let parts = and_parts (spot_before (spot_of item) u.spot) (are_behind (Some (Update u)) items) are in
+      let parts = and_parts (is_before (spot_of item) u.spot) (are_behind (Some (Update u)) items) are in
       earlier-ack (spot_of item) u.spot (acks_of items) parts.0 (first-ack (Update u) items parts.1)
 
   -- an update before all acknowledgements is placed first
@@ -142,7 +136,7 @@ module _ {Op : Type 0} where
       → before_ack u.spot acks ≡ true → placed u acks behind ≡ Update u ∷ behind acks
   placed-first u [] behind before = refl
   placed-first u (a ∷ acks) behind before =
-      ap (λ b. cond b (Ack a ∷ placed u acks behind) (Update u ∷ behind (a ∷ acks))) (spot-asym u.spot a.spot before)
+      ap (λ b. cond b (Ack a ∷ placed u acks behind) (Update u ∷ behind (a ∷ acks))) (before-once u.spot a.spot before)
 
   -- an acknowledgement before all updates is first
   merged-ack : (a : LogAck) (updates : List (LogUpdate Op)) (acks : List LogAck)

@@ -7,8 +7,9 @@ use Rattle.lr_base.specs.Bytes.{Bytes}
 use Rattle.lr_base.specs.Formats.{Format, number_of, number_format, count_format, leading, both, renamed, only_where}
 use Rattle.lr_base.specs.Formats.{known_test, either, keyed, listed}
 use Rattle.lr_base.specs.Kinds.{is_immediate}
-use Rattle.lr_base.specs.Limits.{last_number}
+use Rattle.lr_base.specs.Limits.{last_number, order_room}
 use Rattle.lr_base.specs.Meaning.{Meaning}
+use Rattle.lr_base.specs.Rules.{is_before}
 use Rattle.lr_base.specs.Stamps.{Stamp, part}
 use Rattle.lr_base.specs.declared.bytes.BadWhat.TheVariants.{Range}
 use Rattle.lr_base.specs.declared.messages.Entry.{Entry}
@@ -22,10 +23,6 @@ use Rattle.lr_codec.specs.declared.items.Item.TheVariants.{Update, Ack}
 use Rattle.lr_codec.specs.Parts.{byte_where, number_where, part_format, item_number_format, stamp_format, cid_format}
 use Rattle.lr_codec.specs.Parts.{is_update, op_format}
 
--- a spot stands before another: by place, and then by number
-abbrev pub spot_before : Spot → Spot → Bool
-spot_before a b = nat_lt a.place b.place || ((a.place == b.place) && nat_lt a.number b.number)
-
 -- the spot of a logged item
 abbrev pub spot_of : {Op : Type 0} → Item Op → Spot
 spot_of (Update u) = u.spot
@@ -34,7 +31,7 @@ spot_of (Ack a) = a.spot
 -- a spot may come next: it stands behind that of the item before it, if there is one
 abbrev pub is_next_spot : {Op : Type 0} → Option (Item Op) → Spot → Bool
 is_next_spot None spot = true
-is_next_spot (Some last) spot = spot_before (spot_of last) spot
+is_next_spot (Some last) spot = is_before (spot_of last) spot
 
 -- the tag of an item: 1 of an update, 2 of an acknowledgement
 abbrev pub tag_format : Format ℕ
@@ -101,7 +98,7 @@ only_acks (a ∷ acks) = Ack a ∷ only_acks acks
 -- an update behind the acknowledgements that stand before it, and what comes behind it
 abbrev pub placed : {Op : Type 0} → LogUpdate Op → List LogAck → (List LogAck → List (Item Op)) → List (Item Op)
 placed u [] behind = Update u ∷ behind []
-placed u (a ∷ acks) behind = if spot_before a.spot u.spot then Ack a ∷ placed u acks behind
+placed u (a ∷ acks) behind = if is_before a.spot u.spot then Ack a ∷ placed u acks behind
     else Update u ∷ behind (a ∷ acks)
 
 -- updates and acknowledgements in one list, in the order of their spots where each list has it
@@ -146,13 +143,9 @@ entry_format m op_of parts = renamed
     (both part_format (both cid_format (both (stamp_format parts) (both (stamp_format parts)
     (leading (op_format m op_of is_update) (λ op. known_test (is_immediate (m.kind op))))))))
 
--- how many entries an order log may have at once
-abbrev pub most_entries : ℕ
-most_entries = 64
-
 -- the count of entries, always 4 bytes: behind this base, the log isn't too long
 abbrev pub entry_count_format : ℕ → Format ℕ
-entry_count_format base = only_where (λ count. nat_le count most_entries && nat_le (base + count) last_number) Range
+entry_count_format base = only_where (λ count. nat_le count order_room && nat_le (base + count) last_number) Range
     (number_of 4)
 
 -- the order log: its base, and the entries behind it

@@ -8,6 +8,7 @@ use Rattle.lr_base.specs.Bytes.{Bytes, each_may}
 use Rattle.lr_base.specs.Formats.{Format, both, leading, listed, number_format, number_of, only_where, repeated}
 use Rattle.lr_base.specs.Kinds.{is_immediate}
 use Rattle.lr_base.specs.Meaning.{Meaning}
+use Rattle.lr_base.specs.Rules.{is_before}
 use Rattle.lr_base.specs.Stamps.{Stamp, part}
 use Rattle.lr_base.specs.declared.bytes.BadWhat.TheVariants.{Magic}
 use Rattle.lr_base.specs.declared.messages.Call.{Call}
@@ -18,7 +19,7 @@ use Rattle.lr_codec.specs.declared.items.Item.{Item}
 use Rattle.lr_codec.specs.declared.items.Item.TheVariants.{Update, Ack}
 use Rattle.lr_codec.specs.declared.state.StableState.{StableState}
 use Rattle.lr_codec.specs.Lists.{calls_format, entry_count_format, entry_format, item_format, log_format, marks_format}
-use Rattle.lr_codec.specs.Lists.{merged, only_acks, order_format, placed, spot_before}
+use Rattle.lr_codec.specs.Lists.{merged, only_acks, order_format, placed}
 use Rattle.lr_codec.specs.Parts.{is_update, op_format, value_format}
 use Rattle.lr_codec.specs.Ranges.{is_in_ranges, is_own, is_own_entry, is_own_frozen, is_own_update, unchecked}
 use Rattle.lr_codec.specs.States.{front_format, front_of, frozen_format, head_format, lists_format, lists_of}
@@ -49,7 +50,7 @@ module _ {V Op : Type 0} (m : Meaning V Op) (op_of : Bytes → Option Op) where
       → ((rest : List LogAck) → list_all is_own_item (behind rest) ≡ true)
       → list_all is_own_item (placed u acks behind) ≡ true
   own-placed u [] behind own are = and_from _ _ own (are [])
-  own-placed u (a ∷ acks) behind own are = own-choice (spot_before a.spot u.spot) a (placed u acks behind)
+  own-placed u (a ∷ acks) behind own are = own-choice (is_before a.spot u.spot) a (placed u acks behind)
       (Update u ∷ behind (a ∷ acks)) (own-placed u acks behind own are) (and_from _ _ own (are (a ∷ acks)))
 
   -- two lists in one have the service's operations where the updates do

@@ -7,8 +7,9 @@ use Rattle.lr_base.specs.Bytes.{Bytes}
 use Rattle.lr_base.specs.Formats.{Format, number_of, number_format, leading, both, renamed, only_where, optional}
 use Rattle.lr_base.specs.Formats.{repeated}
 use Rattle.lr_base.specs.Kinds.{is_immediate}
-use Rattle.lr_base.specs.Limits.{last_number, most_replicas}
+use Rattle.lr_base.specs.Limits.{last_number, most_replicas, order_room}
 use Rattle.lr_base.specs.Meaning.{Meaning}
+use Rattle.lr_base.specs.Rules.{same_cid}
 use Rattle.lr_base.specs.Stamps.{Stamp, part}
 use Rattle.lr_base.specs.declared.bytes.BadWhat.TheVariants.{Magic}
 use Rattle.lr_base.specs.declared.messages.Call.{Call}
@@ -24,7 +25,7 @@ use Rattle.lr_codec.specs.declared.heads.Stamps.{Stamps}
 use Rattle.lr_codec.specs.declared.heads.Views.{Views}
 use Rattle.lr_codec.specs.declared.state.StableState.{StableState}
 use Rattle.lr_codec.specs.Parts.{byte_where, number_where, part_format, stamp_format, op_format, value_format}
-use Rattle.lr_codec.specs.Lists.{log_format, calls_format, order_format, marks_format, most_entries}
+use Rattle.lr_codec.specs.Lists.{log_format, calls_format, order_format, marks_format}
 
 -- whose bytes are read: anyone's, or those of one replica of so many
 abbrev pub Whose : Type 0
@@ -89,7 +90,7 @@ table_format replicas = repeated (λ last. stamp_format (replicas + 1)) (replica
 -- whether no entry has a call
 abbrev pub is_free : {Op : Type 0} → List (Entry Op) → Cid → Bool
 is_free entries cid =
-    list_all (λ entry. not ((entry.call.cid.client == cid.client) && (entry.call.cid.seq == cid.seq))) entries
+    list_all (λ entry. not (same_cid entry.call.cid cid)) entries
 
 -- a call that no entry has
 abbrev pub free_cid_format : {Op : Type 0} → List (Entry Op) → Format Cid
@@ -100,7 +101,7 @@ free_cid_format entries = renamed (λ parts. record { client = parts.0; seq = pa
 -- whether a call may be frozen: the view is open, what was ordered was received, and the order log has room and no
 -- immediate entry
 abbrev pub may_freeze : {Op : Type 0} → Bool → ℕ → ℕ × List (Entry Op) → Bool
-may_freeze opened received order = opened && nat_le order.0 received && nat_lt (length order.1) most_entries
+may_freeze opened received order = opened && nat_le order.0 received && nat_lt (length order.1) order_room
     && list_all (λ entry. not entry.immediate) order.1
 
 -- the number under which a call is frozen: the one behind the order log, or one that its base covers

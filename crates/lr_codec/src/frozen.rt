@@ -8,12 +8,12 @@ ghost use Rattle.lr_codec.specs.Parts.{number_where};
 ghost use Rattle.lr_codec.specs.States.{free_cid_format, frozen_call_format, frozen_number_format};
 ghost use Rattle.lr_codec.specs.States.{is_free, may_freeze, numbered_format};
 
-use crate::lists::{MOST_ENTRIES, OrderLog};
+use crate::lists::OrderLog;
 use crate::parts::{Wanted, op_field, stamp_field};
 use lr_base::lr_service::Legible;
 use lr_base::{
-    BadWhat, Call, Cid, Entry, FieldFault, LAST_NUMBER, byte_field, fault_at, number_field,
-    short_field,
+    BadWhat, Call, Cid, Entry, FieldFault, LAST_NUMBER, ORDER_ROOM, byte_field, fault_at,
+    number_field, short_field,
 };
 use std::alloc::Global;
 
@@ -21,8 +21,7 @@ use std::alloc::Global;
 fn is_free<O>(entries: &[Entry<O>], cid: Cid) -> bool
     ensures { result ≡ is_free entries.now cid }
 {
-    entries.iter().all(|entry| !(entry.call.cid.client == cid.client
-        && entry.call.cid.seq == cid.seq))
+    entries.iter().all(|entry| entry.call.cid != cid)
 }
 
 // Whether no entry is immediate.
@@ -67,7 +66,7 @@ pub(crate) fn may_freeze<O>(opened: bool, received: u64, order: &OrderLog<O>) ->
     let (base, entries) = order;
     opened
         && *base <= received
-        && entries.len() < MOST_ENTRIES as usize
+        && entries.len() < ORDER_ROOM as usize
         && has_no_immediate(entries.as_slice())
 }
 

@@ -14,14 +14,11 @@ use crate::readers::{CallRows, EntryRows, MarkRows, StampRows};
 use crate::rows::rows_field;
 use lr_base::lr_service::Legible;
 use lr_base::{
-    BadWhat, Cid, Entry, FieldFault, Known, LAST_NUMBER, LogAck, LogUpdate, NoMemory, Rows, Stamp,
-    count_field, fault_at, number_field, short_field,
+    BadWhat, Cid, Entry, FieldFault, Known, LAST_NUMBER, LogAck, LogUpdate, NoMemory, ORDER_ROOM,
+    Rows, Stamp, count_field, fault_at, number_field, short_field,
 };
 use std::alloc::Global;
 use std::marker::PhantomData;
-
-/// The most entries that an order log has at once.
-pub(crate) const MOST_ENTRIES: u32 = 64;
 
 /// The updates and the acknowledgements of a log.
 pub(crate) type Logged<O> = (Rows<LogUpdate<O>>, Rows<LogAck>);
@@ -97,7 +94,7 @@ fn entry_count_field(base: u64, bytes: &[u8]) -> Result<(u32, &[u8]), FieldFault
     ensures { Reads ((entry_count_format base).field bytes.now) result }
 {
     let (count, rest) = short_field(bytes)?;
-    if count > MOST_ENTRIES || base > LAST_NUMBER - u64::from(count) {
+    if count > ORDER_ROOM || base > LAST_NUMBER - u64::from(count) {
         return Err(fault_at(bytes, BadWhat::Range));
     }
     Ok((count, rest))

@@ -5,7 +5,7 @@ ghost use Rattle.lr_base.specs.Formats.{leading};
 ghost use Rattle.lr_base.specs.declared.messages.LogAck.{LogAck as LoggedAck};
 ghost use Rattle.lr_codec.specs.declared.items.Item.{Item};
 ghost use Rattle.lr_codec.specs.declared.items.Item.TheVariants as item;
-ghost use Rattle.lr_codec.specs.Lists.{item_bytes, merged, only_acks, placed, spot_before, spot_format, tag_format};
+ghost use Rattle.lr_codec.specs.Lists.{item_bytes, merged, only_acks, placed, spot_format, tag_format};
 ghost use Rattle.lr_codec.specs.Ranges.{is_own_update};
 
 use crate::writing::{put_cid, put_op, put_stamp};
@@ -41,13 +41,6 @@ fn put_ack<S: Legible>(ack: &LogAck, out: &mut Text) -> Result<(), NoMemory>
     put_number_field(ack.time, out)
 }
 
-// Whether a spot stands before another.
-fn stands_before(a: Spot, b: Spot) -> bool
-    ensures { result ≡ spot_before a b }
-{
-    a < b
-}
-
 // Adds the acknowledgements from this index on that stand before the update behind `out`. The others begin at the index
 // that is answered.
 fn put_acks_before<S: Legible>(
@@ -61,7 +54,7 @@ fn put_acks_before<S: Legible>(
         ≡ out.old ++ flat_map (item_bytes S.meaning S.op_of) (placed update.now (drop from acks.now) behind)) }
 {
     for place in from..acks.len() {
-        if !stands_before(acks[place].spot, update.spot) {
+        if !acks[place].spot.is_before(update.spot) {
             return Ok(place);
         }
         put_ack::<S>(&acks[place], out)?;

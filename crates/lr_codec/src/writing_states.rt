@@ -2,6 +2,7 @@
 ghost use Rattle.std.specs.Prelude.{◌≡◌, ◌≤◌, ◌++◌, [], ◌&&◌, true, length, None, Some, OnOk};
 ghost use Rattle.std.specs.List.{list_all};
 ghost use Rattle.lr_base.specs.Formats.{listed};
+ghost use Rattle.lr_base.specs.Limits.{order_room};
 ghost use Rattle.lr_codec.specs.Ranges.{is_own, is_own_entry, is_own_frozen, is_own_update};
 ghost use Rattle.lr_codec.specs.Lists.{calls_format, entry_count_format, entry_format, log_format};
 ghost use Rattle.lr_codec.specs.Lists.{marks_format, order_format};
@@ -120,7 +121,7 @@ fn put_order<S: Legible>(
     entries: &[Entry<S::Op>],
     out: &mut Text,
 ) -> Result<(), NoMemory>
-    requires { length entries.now ≤ 64 }
+    requires { length entries.now ≤ order_room }
     ensures ok { OnOk result (out.new
         ≡ out.old ++ (order_format S.meaning S.op_of 0).written (base, entries.now)) }
     ensures real { OnOk result (list_all (is_own_entry S.meaning) entries.now ≡ true) }
@@ -131,7 +132,7 @@ fn put_order<S: Legible>(
 
 // Adds the count of the entries behind `out`, and these.
 fn put_entries<S: Legible>(entries: &[Entry<S::Op>], out: &mut Text) -> Result<(), NoMemory>
-    requires { length entries.now ≤ 64 }
+    requires { length entries.now ≤ order_room }
     ensures ok { OnOk result (out.new
         ≡ out.old ++ (listed (entry_count_format 0) (λ last. entry_format S.meaning S.op_of 0)).written entries.now) }
     ensures real { OnOk result (list_all (is_own_entry S.meaning) entries.now ≡ true) }
@@ -197,7 +198,7 @@ fn put_marks(marks: &[(u64, u64)], out: &mut Text) -> Result<(), NoMemory>
 
 // Adds the lists behind `out`.
 fn put_lists<S: Legible>(state: &StableState<S>, out: &mut Text) -> Result<(), NoMemory>
-    requires { length state.now.entries ≤ 64 }
+    requires { length state.now.entries ≤ order_room }
     ensures ok { OnOk result (out.new
         ≡ out.old ++ (lists_format S.meaning S.op_of 0 [] true).written (lists_of state.now)) }
     ensures real { OnOk result ((list_all (is_own_update S.meaning) state.now.updates
@@ -212,7 +213,7 @@ fn put_lists<S: Legible>(state: &StableState<S>, out: &mut Text) -> Result<(), N
 
 /// Adds the bytes of a state behind `out`.
 pub(crate) fn put_state<S: Legible>(state: &StableState<S>, out: &mut Text) -> Result<(), NoMemory>
-    requires { length state.now.entries ≤ 64 }
+    requires { length state.now.entries ≤ order_room }
     ensures ok { OnOk result (out.new
         ≡ out.old ++ (state_format S.meaning S.op_of S.NUMBER None).written state.now) }
     ensures real { OnOk result (is_own S.meaning state.now ≡ true) }

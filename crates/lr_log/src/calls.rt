@@ -10,7 +10,6 @@ ghost use Rattle.lr_log.specs.Items.{NoneAt};
 ghost use Rattle.lr_log.specs.Rows.{same_spot};
 
 use crate::received::is_new;
-use crate::row::is_before;
 use lr_base::{Cid, NoMemory, Spot, Stamp};
 use std::alloc::Global;
 use std::marker::Model;
@@ -113,17 +112,11 @@ impl CallIndex {
     }
 }
 
-fn is_cid_before(first: Cid, second: Cid) -> bool
-    ensures { result ≡ cid_before first second }
-{
-    first.client < second.client || first.client == second.client && first.seq < second.seq
-}
-
 fn is_entry_before(first: CallSpot, second: CallSpot) -> bool
     ensures { result ≡ entry_before first second }
 {
-    is_cid_before(first.cid, second.cid)
-        || first.cid == second.cid && is_before(first.spot, second.spot)
+    first.cid.is_before(second.cid)
+        || first.cid == second.cid && first.spot.is_before(second.spot)
 }
 
 // How many entries come before this one.
@@ -143,5 +136,5 @@ fn count_of_earlier(entries: &[CallSpot], cid: Cid) -> usize
     ensures point { IsPartitionPoint (λ e. cid_before e.cid cid ≡ true) (λ e. cid_before e.cid cid ≡ false)
         entries.now result }
 {
-    entries.partition_point(|entry| is_cid_before(entry.cid, cid))
+    entries.partition_point(|entry| entry.cid.is_before(cid))
 }

@@ -130,13 +130,6 @@ impl<T: Copied> Row<T> {
     }
 }
 
-/// Whether a spot comes before another, by place and then by number.
-pub fn is_before(first: Spot, second: Spot) -> bool
-    ensures { result ≡ spot_is_before first second }
-{
-    first.place < second.place || first.place == second.place && first.number < second.number
-}
-
 // How many items stand before a spot.
 fn count_before<T: AtSpot>(items: &[T], spot: Spot) -> usize
     requires { AreInOrder T.spot_of items.now }
@@ -144,5 +137,5 @@ fn count_before<T: AtSpot>(items: &[T], spot: Spot) -> usize
     ensures point { IsPartitionPoint (λ x. spot_is_before (T.spot_of x) spot ≡ true)
         (λ x. spot_is_before (T.spot_of x) spot ≡ false) items.now result }
 {
-    items.partition_point(|item| is_before(item.spot(), spot))
+    items.partition_point(|item| item.spot().is_before(spot))
 }

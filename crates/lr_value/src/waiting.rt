@@ -44,13 +44,6 @@ fn first_lack(prev: &Stamp, val_ts: &Stamp) -> Option<Spot>
     None
 }
 
-// Whether a spot comes before another, by place and then by number.
-fn is_before(first: Spot, second: Spot) -> bool
-    ensures { result ≡ spot_is_before first second }
-{
-    first.place < second.place || first.place == second.place && first.number < second.number
-}
-
 // Whether what is needed is there, once this place has this number.
 fn is_met(needs: Spot, place: u8, number: u64) -> bool
     ensures { result ≡ is_met_at place number needs }
@@ -63,7 +56,7 @@ fn place_by_spot<O>(ready: &[&LogUpdate<O>], spot: Spot) -> usize
     requires { AreInOrder (λ r. r.now.spot) ready.now }
     ensures { IsPlaceFor (λ r. r.now.spot) spot ready.now result }
 {
-    ready.partition_point(|other| is_before(other.spot, spot))
+    ready.partition_point(|other| other.spot.is_before(spot))
 }
 
 // How many need what comes before this.
@@ -71,7 +64,7 @@ fn place_by_need<O>(blocked: &[Blocked<O>], needs: Spot) -> usize
     requires { AreByNeed blocked.now }
     ensures { IsPlaceFor (λ b. b.needs) needs blocked.now result }
 {
-    blocked.partition_point(|other| is_before(other.needs, needs))
+    blocked.partition_point(|other| other.needs.is_before(needs))
 }
 
 // Where an update of this spot goes among those whose causes are applied, unless one is there.
