@@ -369,7 +369,7 @@ impl<S: Service> Causal<S> {
     }
 
     /// Applies all that is ready. Where something is, the value of before goes into the savepoint, unless it has one
-    /// already. Where nothing was received since the last time, it looks at no update and takes no memory.
+    /// already. Where nothing was received since the last time, it looks at no update.
     pub fn apply(&mut self, point: &mut Savepoint<S>) -> Result<(), NoMemory>
         ensures ok { OnOk result (state_of self.new ≡ applied S.meaning (state_of self.old)) }
         // what stays, and can be undone

@@ -115,8 +115,7 @@ impl CallIndex {
 fn is_entry_before(first: CallSpot, second: CallSpot) -> bool
     ensures { result ≡ entry_before first second }
 {
-    first.cid.is_before(second.cid)
-        || first.cid == second.cid && first.spot.is_before(second.spot)
+    first.cid.is_before(second.cid) || first.cid == second.cid && first.spot.is_before(second.spot)
 }
 
 // How many entries come before this one.

@@ -185,7 +185,11 @@ impl<O: Operation> Log<O> {
           acks = all_acks_inserted acks.now self.old.acks;
         }) }
         ensures err { OnErr result (self.new ≡ self.old) }
+        ensures none { OnErr result (¬ ((updates.now ≡ []) × (acks.now ≡ []))) }
     {
+        if updates.is_empty() && acks.is_empty() {
+            return Ok(());
+        }
         self.updates.insert_all(updates)?;
         let Ok(()) = self.acks.insert_all(acks) else {
             self.updates.take_back(updates, updates.len());

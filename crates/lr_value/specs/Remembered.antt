@@ -52,9 +52,13 @@ pub record IsLogOf {Value Op : Type 0} (kind_of : Op → Kind) (received : Stamp
   pub remembered : Remembers v updates
   pub parts : length received ≡ length v.val_ts
 
+-- all that was received, so many items of each place, was looked at
+abbrev pub HasLooked : {Value : Type 0} → Stamp → Applied Value → Type 0
+HasLooked received v = option_map (λ m. m.seen) v.memory ≡ Some received
+
 -- nothing is left to apply of these updates, and it is remembered so where so many items of each place were seen
 pub record IsSettledAt {Value Op : Type 0} (seen : Stamp) (updates : List (LogUpdate Op)) (v : Applied Value)
     : Type 0 where
   pub none_ready : NoneReady v.val_ts updates
   pub remembers : Remembers v updates
-  pub looked : option_map (λ m. m.seen) v.memory ≡ Some seen
+  pub looked : HasLooked seen v

@@ -8,7 +8,7 @@ ghost use Rattle.lr_base.specs.declared.messages.Known.{Known};
 ghost use Rattle.lr_base.specs.declared.names.Cid.{Cid};
 ghost use Rattle.lr_value.specs.Applied.{GoesOn, IsOlderOf, all_ready, progress};
 ghost use Rattle.lr_value.specs.Executing.{HasApplied};
-ghost use Rattle.lr_value.specs.Remembered.{IsLogOf, IsSettledAt};
+ghost use Rattle.lr_value.specs.Remembered.{HasLooked, IsLogOf, IsSettledAt};
 
 use crate::applying::{Draft, apply_all};
 use crate::gathering::{gathered, is_one_ready};
@@ -107,7 +107,7 @@ impl<S: Service> Value<S> {
         ensures settled { IsTrue result → IsSettledAt received.now (L.updates log.now) self.now }
         ensures idle { IsTrue result → (calls : List (Cid × Known))
             → all_ready S.meaning (L.updates log.now) (progress self.now calls) ≡ progress self.now calls }
-        ensures new { option_map (λ memory. memory.seen) self.now.memory ≡ Some received.now → IsTrue result }
+        ensures new { HasLooked received.now self.now → IsTrue result }
     {
         match &self.memory {
             Some(memory) => memory.is_of(received),
@@ -134,8 +134,8 @@ impl<S: Service> Value<S> {
         ensures settled { OnOk result (IsSettledAt received.now (L.updates log.now) self.new) }
         ensures older { IfOk result
             (IsOlderOf (progress self.old (E.known calls.old)) (progress self.new (E.known calls.new))) }
-        // what stays, also where memory ends
-        ensures stays { OnErr result (self.new ≡ self.old)
+        // what stays, also where memory ends, which can't be where nothing is new
+        ensures stays { OnErr result ((self.new ≡ self.old) × ¬ (HasLooked received.now self.old))
             × GoesOn (progress self.old (E.known calls.old)) (progress self.new (E.known calls.new))
             × (E.kept calls.new ≡ E.kept calls.old) }
     {
