@@ -17,6 +17,7 @@ pub mod Limits
 pub mod Logged
 pub mod Meaning
 pub mod NameLaws
+pub mod OpLaws
 pub mod OrderLaws
 pub mod Orders
 pub mod PlaceLaws
