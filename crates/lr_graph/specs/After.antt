@@ -1,6 +1,7 @@
 -- How the facts of a history change: by each event, and by each line that is printed of it.
 use Rattle.std.specs.Prelude.{ℕ, suc, ◌^◌, ◌==◌, max, Bool, true, false, not, Option, Some, None}
 use Rattle.std.specs.Prelude.{List, [], ◌∷◌, ◌++◌, filter, find}
+use Rattle.lr_base.specs.Meaning.{Meaning}
 use Rattle.lr_base.specs.declared.events.Event.{Event}
 use Rattle.lr_base.specs.declared.events.Event.TheVariants.{Call, Deliver, Gossip as GossipEvent, Show}
 use Rattle.lr_base.specs.declared.events.Outcome.{Outcome}
@@ -11,6 +12,7 @@ use Rattle.lr_base.specs.declared.events.Sent.TheVariants.{Update, Query, Done, 
 use Rattle.lr_base.specs.declared.events.Step.{Step}
 use Rattle.lr_base.specs.declared.names.Actor.{Actor}
 use Rattle.lr_base.specs.declared.names.Actor.TheVariants.{Client, Replica}
+use Rattle.lr_base.specs.declared.names.Config.{Config}
 use Rattle.lr_base.specs.declared.names.Spot.{Spot}
 use Rattle.lr_graph.specs.Graph.{Carried, Facts, FrontFacts, LabelledCall, SentMessage}
 use Rattle.lr_graph.specs.Graph.{UpdateCopy, QueryCopy, DoneReply, AnswerReply, GossipOf, Blank}
@@ -57,17 +59,35 @@ abbrev pub replica_of : Actor → Option ℕ
 replica_of (Replica i) = Some i
 replica_of (Client client) = None
 
--- the replica that a message comes to, if one came and it is a replica's
-abbrev pub receiving : {Op : Type 0} → Option (SentMessage Op) → Option ℕ
-receiving None = None
-receiving (Some x) = replica_of x.to
+-- the replica among actors, if there is an actor and it is one
+abbrev pub replica_in : Option Actor → Option ℕ
+replica_in None = None
+replica_in (Some actor) = replica_of actor
+
+-- whom a message comes to, if one came
+abbrev pub receiver : {Op : Type 0} → Option (SentMessage Op) → Option Actor
+receiver None = None
+receiver (Some x) = Some x.to
+
+-- the actor whose step an event is, if there is one: a show is nobody's, nor is a delivery of nothing
+abbrev pub acting : {Op : Type 0} → Facts Op → Event Op → Option Actor
+acting w (Call client replica reading op) = Some (Client client)
+acting w (Deliver message) = receiver (delivery_of w (Deliver message))
+acting w (GossipEvent from to) = Some (Replica from)
+acting w (Show replica) = None
 
 -- the replica that an event is a step of, if it is a replica's
 abbrev pub stepping : {Op : Type 0} → Facts Op → Event Op → Option ℕ
-stepping w (Call client replica reading op) = None
-stepping w (Deliver message) = receiving (delivery_of w (Deliver message))
-stepping w (GossipEvent from to) = Some from
-stepping w (Show replica) = None
+stepping w event = replica_in (acting w event)
+
+-- whose step it is, and the message that came in it, where there are such
+pub record Handling (Op : Type 0) : Type 0 where
+  pub actor : Option Actor
+  pub came : Option (SentMessage Op)
+
+-- an event is handled by the actor whose step it is, with the message that it delivers
+abbrev pub handling : {Op : Type 0} → Facts Op → Event Op → Handling Op
+handling w event = record { actor = acting w event; came = delivery_of w event }
 
 -- the causes of a causal update: what its label names
 abbrev pub causes_of : {Op : Type 0} → LabelledCall Op → SpotSet
@@ -136,23 +156,24 @@ abbrev pub with_message : {Op : Type 0} → Facts Op → Option (SentMessage Op)
 with_message w None change = w
 with_message w (Some x) change = change x.to x.what
 
--- the facts after a line: all but these five change nothing
-abbrev pub line_read : {Op : Type 0} → Option (SentMessage Op) → Facts Op → Outcome → Facts Op
-line_read x w (Send number from to what) =
+-- the facts after a line of such a step: all but these five change nothing
+abbrev pub line_read : {Value Op : Type 0} → Meaning Value Op → Config → Handling Op → Facts Op → Outcome → Facts Op
+line_read m config x w (Send number from to what) =
     record w { messages = record { number = number; from = from; to = to; what = carried w from what } ∷ w.messages }
-line_read x w (Accept spot cid) = with_message w x (accept_read w spot)
-line_read x w (Hold cid) = with_message w x (hold_read w)
-line_read x w (Take count) = with_message w x (take_read w)
-line_read x w (Got cid) = with_message w x (got_read w)
-line_read x w (Stale cid) = w
-line_read x w (NoMessage message) = w
-line_read x w (Refuse why) = w
-line_read x w (State line) = w
+line_read m config x w (Accept spot cid) = with_message w x.came (accept_read w spot)
+line_read m config x w (Hold cid) = with_message w x.came (hold_read w)
+line_read m config x w (Take count) = with_message w x.came (take_read w)
+line_read m config x w (Got cid) = with_message w x.came (got_read w)
+line_read m config x w (Stale cid) = w
+line_read m config x w (NoMessage message) = w
+line_read m config x w (Refuse why) = w
+line_read m config x w (State line) = w
 
 -- the facts after several lines
-abbrev pub lines_read : {Op : Type 0} → Option (SentMessage Op) → Facts Op → List Outcome → Facts Op
-lines_read x w [] = w
-lines_read x w (line ∷ lines) = lines_read x (line_read x w line) lines
+abbrev pub lines_read : {Value Op : Type 0} → Meaning Value Op → Config → Handling Op → Facts Op → List Outcome
+    → Facts Op
+lines_read m config x w [] = w
+lines_read m config x w (line ∷ lines) = lines_read m config x (line_read m config x w line) lines
 
 -- at the end of a replica's step its answered queries are held no more, and it keeps a spot of each call that got ready
 abbrev pub end_read : {Op : Type 0} → Facts Op → ℕ → Facts Op
@@ -162,11 +183,12 @@ end_read w i = record w {
 }
 
 -- the facts at the end of a step of this replica, if it is a replica's
-abbrev pub step_ended : {Op : Type 0} → Option ℕ → Facts Op → Facts Op
-step_ended None w = w
-step_ended (Some i) w = end_read w i
+abbrev pub step_ended : {Value Op : Type 0} → Meaning Value Op → Config → Option ℕ → Facts Op → Facts Op
+step_ended m config None w = w
+step_ended m config (Some i) w = end_read w i
 
 -- the facts after a step
-abbrev pub after : {Op : Type 0} → Facts Op → Step Op → Facts Op
-after w step =
-    step_ended (stepping w step.event) (lines_read (delivery_of w step.event) (event_read w step.event) step.outcomes)
+abbrev pub after : {Value Op : Type 0} → Meaning Value Op → Config → Facts Op → Step Op → Facts Op
+after m config w step =
+    let now = lines_read m config (handling w step.event) (event_read w step.event) step.outcomes in
+    step_ended m config (stepping w step.event) now

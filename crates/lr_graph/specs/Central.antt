@@ -2,6 +2,7 @@
 use Rattle.std.specs.Prelude.{◌≡◌, ◌<◌, ℕ, find, length, ◌&&◌, ◌==◌, max, if◌then◌else◌, List, [], ◌∷◌, Some}
 use Rattle.std.specs.List.{slice_get}
 use Rattle.lr_base.specs.Fronts.{FrontState}
+use Rattle.lr_base.specs.Meaning.{Meaning}
 use Rattle.lr_base.specs.Orders.{IsAmong}
 use Rattle.lr_base.specs.Replicas.{ReplicaState}
 use Rattle.lr_base.specs.Rules.{stamp_of}
@@ -22,9 +23,9 @@ use Rattle.lr_graph.specs.Runs.{RunState, message_at}
 use Rattle.lr_graph.specs.Sets.{SpotSet}
 
 -- the facts after a history
-abbrev pub facts_after : {Op : Type 0} → Facts Op → List (Step Op) → Facts Op
-facts_after w [] = w
-facts_after w (step ∷ steps) = facts_after (after w step) steps
+abbrev pub facts_after : {Value Op : Type 0} → Meaning Value Op → Config → Facts Op → List (Step Op) → Facts Op
+facts_after m config w [] = w
+facts_after m config w (step ∷ steps) = facts_after m config (after m config w step) steps
 
 -- the greatest number that a set has at a place, or 0 where it has none
 abbrev pub greatest : {Op : Type 0} → List (Acceptance Op) → SpotSet → ℕ → ℕ

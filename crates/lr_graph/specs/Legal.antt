@@ -18,7 +18,7 @@ use Rattle.lr_base.specs.declared.names.Actor.TheVariants.{Client, Replica}
 use Rattle.lr_base.specs.declared.names.Cid.{Cid}
 use Rattle.lr_base.specs.declared.names.Config.{Config}
 use Rattle.lr_base.specs.declared.names.Spot.{Spot}
-use Rattle.lr_graph.specs.After.{after, delivery_of, event_read, lines_read, next_call, stepping}
+use Rattle.lr_graph.specs.After.{after, delivery_of, event_read, handling, lines_read, next_call, stepping}
 use Rattle.lr_graph.specs.Graph.{Carried, Facts, LabelledCall, SentMessage, first_facts}
 use Rattle.lr_graph.specs.Graph.{UpdateCopy, QueryCopy, DoneReply, AnswerReply, GossipOf}
 use Rattle.lr_graph.specs.Graph.{calls_of, counts, is_within, kept_spot, least_spot, made}
@@ -147,13 +147,13 @@ answers_at m w (Some i) = answers m w (next_number w) i (w.held i)
 abbrev pub outcomes_of : {Value Op : Type 0} → Meaning Value Op → Config → Facts Op → Event Op → List Outcome
 outcomes_of m config w event =
     let own = own_lines m config w event in
-    own ++ answers_at m (lines_read (delivery_of w event) (event_read w event) own) (stepping w event)
+    own ++ answers_at m (lines_read m config (handling w event) (event_read w event) own) (stepping w event)
 
 -- each step has just the outcomes that its event may have after the steps before it
 abbrev pub LegalFrom : {Value Op : Type 0} → Meaning Value Op → Config → Facts Op → List (Step Op) → Type 0
 LegalFrom m config w [] = Unit {0}
 LegalFrom m config w (step ∷ steps) =
-    (step.outcomes ≡ outcomes_of m config w step.event) × LegalFrom m config (after w step) steps
+    (step.outcomes ≡ outcomes_of m config w step.event) × LegalFrom m config (after m config w step) steps
 
 -- a legal history
 abbrev pub IsLegal : {Value Op : Type 0} → Meaning Value Op → Config → List (Step Op) → Type 0

@@ -13,7 +13,7 @@ pub LegalFrom-prop : {Value Op : Type 0} (m : Meaning Value Op) (config : Config
     (steps : List (Step Op)) → IsProp (LegalFrom m config w steps)
 LegalFrom-prop m config w [] = Unit-prop
 LegalFrom-prop m config w (step ∷ steps) =
-    ×_prop (Coded-set (coded_list outcome.the_row.coded) _ _) (LegalFrom-prop m config (after w step) steps)
+    ×_prop (Coded-set (coded_list outcome.the_row.coded) _ _) (LegalFrom-prop m config (after m config w step) steps)
 
 -- so what shows only that a history is legal in some way shows that it is legal
 pub IsLegal-prop : {Value Op : Type 0} (m : Meaning Value Op) (config : Config) (steps : List (Step Op))

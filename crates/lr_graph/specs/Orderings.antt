@@ -1,7 +1,9 @@
 -- Orders of acceptances in which each follows its causes. An order has the newest first, as the graph's own list has.
 use Rattle.std.specs.Prelude.{◌≡◌, ℕ, true, false, List, [], ◌∷◌, filter}
+use Rattle.lr_base.specs.Meaning.{Meaning}
 use Rattle.lr_base.specs.Orders.{IsAmong}
 use Rattle.lr_base.specs.declared.events.Step.{Step}
+use Rattle.lr_base.specs.declared.names.Config.{Config}
 use Rattle.lr_graph.specs.Central.{facts_after}
 use Rattle.lr_graph.specs.Closed.{Each, HasApartSpots}
 use Rattle.lr_graph.specs.Graph.{Acceptance, first_facts, ready}
@@ -25,13 +27,15 @@ pub record IsOrderOf {Op : Type 0} (accepted : List (Acceptance Op)) (set : Spot
   pub follows : FollowsCauses order
 
 -- an order of what is ready at a replica after a history
-abbrev pub IsReadyOrder : {Op : Type 0} → List (Step Op) → ℕ → List (Acceptance Op) → Type 0
-IsReadyOrder steps i order =
-    let w = facts_after first_facts steps in
+abbrev pub IsReadyOrder : {Value Op : Type 0} → Meaning Value Op → Config → List (Step Op) → ℕ → List (Acceptance Op)
+    → Type 0
+IsReadyOrder m config steps i order =
+    let w = facts_after m config first_facts steps in
     IsOrderOf w.accepted (ready w.accepted (w.received i)) order
 
 -- what is ready at a replica after a history, in the order of making
-abbrev pub ready_as_made : {Op : Type 0} → List (Step Op) → ℕ → List (Acceptance Op)
-ready_as_made steps i =
-    let w = facts_after first_facts steps in
+abbrev pub ready_as_made : {Value Op : Type 0} → Meaning Value Op → Config → List (Step Op) → ℕ
+    → List (Acceptance Op)
+ready_as_made m config steps i =
+    let w = facts_after m config first_facts steps in
     filter (λ a. ready w.accepted (w.received i) a.spot) w.accepted

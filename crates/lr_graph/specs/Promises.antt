@@ -18,8 +18,8 @@ use Rattle.lr_graph.specs.Graph.{QueryCopy, DoneReply, AnswerReply}
 use Rattle.lr_graph.specs.Sets.{SpotSet}
 
 -- the facts of a history
-abbrev pub facts_of : {Op : Type 0} → List (Step Op) → Facts Op
-facts_of steps = facts_after first_facts steps
+abbrev pub facts_of : {Value Op : Type 0} → Meaning Value Op → Config → List (Step Op) → Facts Op
+facts_of m config steps = facts_after m config first_facts steps
 
 -- each spot of one set is in the other
 infix 30 ◌⊆◌
@@ -27,21 +27,23 @@ abbrev pub ◌⊆◌ : SpotSet → SpotSet → Type 0
 x ⊆ y = (spot : Spot) → x spot ≡ true → y spot ≡ true
 
 -- in the step behind a history this reply comes to a client, which takes it as the one to its call
-pub record Takes {Op : Type 0} (before : List (Step Op)) (step : Step Op) (client : ℕ) (cid : Cid)
-    (reply : Carried Op) : Type 0 where
+pub record Takes {Value Op : Type 0} (m : Meaning Value Op) (config : Config) (before : List (Step Op)) (step : Step Op)
+    (client : ℕ) (cid : Cid) (reply : Carried Op) : Type 0 where
   pub message : SentMessage Op
-  pub comes : delivery_of (facts_of before) step.event ≡ Some message
+  pub comes : delivery_of (facts_of m config before) step.event ≡ Some message
   pub to : message.to ≡ Client client
   pub what : message.what ≡ reply
   pub got : IsAmong (Got cid) step.outcomes
 
 -- a client is told that its update is done: the reply stands for the acceptance and its causes
-abbrev pub TakesDone : {Op : Type 0} → List (Step Op) → Step Op → ℕ → Cid → SpotSet → Type 0
-TakesDone before step client cid names = Takes before step client cid (DoneReply cid names)
+abbrev pub TakesDone : {Value Op : Type 0} → Meaning Value Op → Config → List (Step Op) → Step Op → ℕ → Cid → SpotSet
+    → Type 0
+TakesDone m config before step client cid names = Takes m config before step client cid (DoneReply cid names)
 
 -- a client is told the answer to its query: it was read after what this set names
-abbrev pub TakesAnswer : {Op : Type 0} → List (Step Op) → Step Op → ℕ → Cid → SpotSet → Type 0
-TakesAnswer before step client cid names = Takes before step client cid (AnswerReply cid names)
+abbrev pub TakesAnswer : {Value Op : Type 0} → Meaning Value Op → Config → List (Step Op) → Step Op → ℕ → Cid → SpotSet
+    → Type 0
+TakesAnswer m config before step client cid names = Takes m config before step client cid (AnswerReply cid names)
 
 -- the call was accepted at this spot, and these names are what is below the acceptance
 pub record IsDoneAt {Op : Type 0} (accepted : List (Acceptance Op)) (cid : Cid) (spot : Spot)

@@ -2,6 +2,7 @@
 use Rattle.std.specs.Prelude.{ℕ, List}
 use Rattle.lr_base.specs.Meaning.{Meaning}
 use Rattle.lr_base.specs.declared.events.Step.{Step}
+use Rattle.lr_base.specs.declared.names.Config.{Config}
 use Rattle.lr_base.specs.declared.names.Spot.{Spot}
 use Rattle.lr_graph.specs.Central.{facts_after}
 use Rattle.lr_graph.specs.Graph.{Facts, first_facts, ready, spots_of, value}
@@ -15,9 +16,9 @@ abbrev pub value_in : {Value Op : Type 0} → Meaning Value Op → Facts Op → 
 value_in m w i = value m w.accepted (ready w.accepted (w.received i))
 
 -- the spots of what is ready at a replica after a history, ascending
-abbrev pub ready_after : {Op : Type 0} → List (Step Op) → ℕ → List Spot
-ready_after steps i = ready_spots_in (facts_after first_facts steps) i
+abbrev pub ready_after : {Value Op : Type 0} → Meaning Value Op → Config → List (Step Op) → ℕ → List Spot
+ready_after m config steps i = ready_spots_in (facts_after m config first_facts steps) i
 
 -- the service's value after what is ready at a replica after a history
-abbrev pub value_after : {Value Op : Type 0} → Meaning Value Op → List (Step Op) → ℕ → Value
-value_after m steps i = value_in m (facts_after first_facts steps) i
+abbrev pub value_after : {Value Op : Type 0} → Meaning Value Op → Config → List (Step Op) → ℕ → Value
+value_after m config steps i = value_in m (facts_after m config first_facts steps) i

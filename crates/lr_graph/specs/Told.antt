@@ -3,6 +3,7 @@ use Rattle.std.specs.Prelude.{ℕ, ◌^◌, Bool, ◌&&◌, min, map, List, [], 
 use Rattle.std.specs.List.{list_any}
 use Rattle.std.specs.Option.{option_map}
 use Rattle.lr_base.specs.declared.names.Spot.{Spot}
+use Rattle.lr_graph.specs.After.{Handling}
 use Rattle.lr_graph.specs.Graph.{Acceptance, Carried, Facts, FrontFacts, LabelledCall, SentMessage, is_within}
 use Rattle.lr_graph.specs.Graph.{UpdateCopy, QueryCopy, DoneReply, AnswerReply, GossipOf, Blank}
 use Rattle.lr_graph.specs.Sets.{SpotSet, nothing, same_spot}
@@ -12,6 +13,7 @@ use Rattle.lr_graph.specs.declared.facts.items.AcceptedUpdate.{AcceptedUpdate}
 use Rattle.lr_graph.specs.declared.facts.items.CallCopy.{CallCopy}
 use Rattle.lr_graph.specs.declared.facts.items.FrontNow.{FrontNow}
 use Rattle.lr_graph.specs.declared.facts.items.Gathered.{Gathered}
+use Rattle.lr_graph.specs.declared.facts.items.Handled.{Handled}
 use Rattle.lr_graph.specs.declared.facts.items.Load.{Load}
 use Rattle.lr_graph.specs.declared.facts.items.Load.TheVariants.{Update, Query, Done, Answer, Gossip, Nothing}
 use Rattle.lr_graph.specs.declared.facts.items.SentCopy.{SentCopy}
@@ -40,6 +42,10 @@ load_of Nothing = Blank
 -- the message that is told
 abbrev pub sent_message_of : {Op : Type 0} → SentCopy Op → SentMessage Op
 sent_message_of x = record { number = x.number; from = x.from; to = x.to; what = load_of x.load }
+
+-- the step that is told: whose it is, and the message that came in it
+abbrev pub handling_of : {Op : Type 0} → Handled Op → Handling Op
+handling_of x = record { actor = x.actor; came = option_map sent_message_of x.came }
 
 -- the front end that is told: its calls are counted no further than to their most
 abbrev pub front_of : {Op : Type 0} → FrontNow Op → FrontFacts Op

@@ -1,10 +1,12 @@
 //! Laws about legal histories: each function does nothing, and its contract is the law.
 ghost use Rattle.std.specs.Prelude.{◌≡◌, ◌++◌, ◌∷◌, ℕ, [], List, map};
 ghost use Rattle.lr_base.specs.Events.{IsEventOf};
+ghost use Rattle.lr_base.specs.declared.events.Outcome.TheVariants.{Send};
+ghost use Rattle.lr_graph.specs.After.{Handling, line_read};
 ghost use Rattle.lr_graph.specs.Answers.{CallsOp, HasPrintableAnswer};
 ghost use Rattle.lr_graph.specs.Central.{IsCentral, facts_after};
 ghost use Rattle.lr_graph.specs.Closed.{Each, IsClosed, IsSound, IsWithin};
-ghost use Rattle.lr_graph.specs.Graph.{Acceptance, first_facts, ready, value};
+ghost use Rattle.lr_graph.specs.Graph.{Acceptance, Facts, first_facts, ready, value};
 ghost use Rattle.lr_graph.specs.Legal.{IsLegal};
 ghost use Rattle.lr_graph.specs.Made.{IsMade, made_step};
 ghost use Rattle.lr_graph.specs.Orderings.{IsReadyOrder, everything, ready_as_made};
@@ -13,7 +15,7 @@ ghost use Rattle.lr_graph.specs.Sets.{SpotSet};
 ghost use Rattle.lr_graph.specs.Slow.{value_after};
 
 use lr_base::lr_service::Service;
-use lr_base::{Config, Event, Step};
+use lr_base::{Actor, Config, Event, Sent, Step};
 
 /// A history that the actors of a run make, each by its own rules, is legal.
 pub fn what_is_made_is_legal<S: Service>()
@@ -53,7 +55,14 @@ pub fn legal_histories_are_one<S: Service>()
 /// received is a prefix at each place, and the facts have as many messages as were sent.
 pub fn stamps_stand_for_sets<S: Service>()
     ensures { (config : Config) (steps : List (Step S.Op)) (run : RunState S S.Op)
-        → IsMade S.meaning config steps run → IsCentral config (facts_after first_facts steps) run }
+        → IsMade S.meaning config steps run → IsCentral config (facts_after S.meaning config first_facts steps) run }
+{}
+
+/// A line that tells of a sent message changes the messages and nothing else.
+pub fn sending_changes_the_messages_alone<S: Service>()
+    ensures { (config : Config) (x : Handling S.Op) (w : Facts S.Op) (number : ℕ) (from to : Actor) (what : Sent)
+        → line_read S.meaning config x w (Send number from to what)
+        ≡ record w { messages = (line_read S.meaning config x w (Send number from to what)).messages } }
 {}
 
 /// What is ready is received and has all its causes, and every such set is within it.
@@ -72,11 +81,11 @@ pub fn ready_is_the_greatest_closed_set<S: Service>()
 pub fn every_order_gives_one_value<S: Service>()
     ensures value { (config : Config) (steps : List (Step S.Op))
         → Each (λ step. IsEventOf S.meaning config step.event) steps → IsLegal S.meaning config steps
-        → (i : ℕ) (order : List (Acceptance S.Op)) → IsReadyOrder steps i order
-        → value S.meaning order everything ≡ value_after S.meaning steps i }
+        → (i : ℕ) (order : List (Acceptance S.Op)) → IsReadyOrder S.meaning config steps i order
+        → value S.meaning order everything ≡ value_after S.meaning config steps i }
     ensures own { (config : Config) (steps : List (Step S.Op))
         → Each (λ step. IsEventOf S.meaning config step.event) steps → IsLegal S.meaning config steps
-        → (i : ℕ) → IsReadyOrder steps i (ready_as_made steps i) }
+        → (i : ℕ) → IsReadyOrder S.meaning config steps i (ready_as_made S.meaning config steps i) }
 {}
 
 /// Each answer of a legal history whose calls are of the service's operations is printable, and so holds no line feed.

@@ -26,15 +26,18 @@ pub fn answers_are_read_after_what_is_ready<S: Service>()
         → Each (λ step. IsEventOf S.meaning config step.event) (before ++ sending ∷ between ++ answer ∷ later)
         → IsLegal S.meaning config (before ++ sending ∷ between ++ answer ∷ later)
         → IsAmong (Send number (Replica i) (Client client) (Answer cid text)) sending.outcomes
-        → answer.event ≡ Deliver number → TakesAnswer (before ++ sending ∷ between) answer client cid seen
-        → seen ≡ ready (facts_of (before ++ sending ∷ [])).accepted ((facts_of (before ++ sending ∷ [])).received i) }
+        → answer.event ≡ Deliver number
+        → TakesAnswer S.meaning config (before ++ sending ∷ between) answer client cid seen
+        → seen ≡ ready (facts_of S.meaning config (before ++ sending ∷ [])).accepted
+        ((facts_of S.meaning config (before ++ sending ∷ [])).received i) }
     ensures text { (config : Config) (before between later : List (Step S.Op)) (sending answer : Step S.Op)
         (number i client : ℕ) (cid : Cid) (text : List ℕ) (seen : SpotSet)
         → Each (λ step. IsEventOf S.meaning config step.event) (before ++ sending ∷ between ++ answer ∷ later)
         → IsLegal S.meaning config (before ++ sending ∷ between ++ answer ∷ later)
         → IsAmong (Send number (Replica i) (Client client) (Answer cid text)) sending.outcomes
-        → answer.event ≡ Deliver number → TakesAnswer (before ++ sending ∷ between) answer client cid seen
-        → IsReadAfter S.meaning (facts_of (before ++ sending ∷ [])) seen cid text }
+        → answer.event ≡ Deliver number
+        → TakesAnswer S.meaning config (before ++ sending ∷ between) answer client cid seen
+        → IsReadAfter S.meaning (facts_of S.meaning config (before ++ sending ∷ [])) seen cid text }
 {}
 
 /// What a reply to an update stands for: the acceptance of the call at the spot that the reply names, and its causes.
@@ -44,8 +47,9 @@ pub fn replies_stand_for_acceptances<S: Service>()
         → Each (λ step. IsEventOf S.meaning config step.event) (before ++ sending ∷ between ++ done ∷ later)
         → IsLegal S.meaning config (before ++ sending ∷ between ++ done ∷ later)
         → IsAmong (Send number (Replica i) (Client client) (Done cid spot)) sending.outcomes
-        → done.event ≡ Deliver number → TakesDone (before ++ sending ∷ between) done client cid names
-        → IsDoneAt (facts_of (before ++ sending ∷ [])).accepted cid spot names }
+        → done.event ≡ Deliver number
+        → TakesDone S.meaning config (before ++ sending ∷ between) done client cid names
+        → IsDoneAt (facts_of S.meaning config (before ++ sending ∷ [])).accepted cid spot names }
 {}
 
 /// Read your writes: each answer that a client takes was read after each of its updates that it was told are done
@@ -55,16 +59,16 @@ pub fn clients_read_their_writes<S: Service>()
         (client : ℕ) (write read : Cid) (names seen : SpotSet)
         → Each (λ step. IsEventOf S.meaning config step.event) (before ++ done ∷ between ++ answer ∷ later)
         → IsLegal S.meaning config (before ++ done ∷ between ++ answer ∷ later)
-        → TakesDone before done client write names
-        → TakesAnswer (before ++ done ∷ between) answer client read seen
+        → TakesDone S.meaning config before done client write names
+        → TakesAnswer S.meaning config (before ++ done ∷ between) answer client read seen
         → names ⊆ seen }
     ensures done { (config : Config) (before between later : List (Step S.Op)) (done answer : Step S.Op)
         (client : ℕ) (write read : Cid) (names seen : SpotSet)
         → Each (λ step. IsEventOf S.meaning config step.event) (before ++ done ∷ between ++ answer ∷ later)
         → IsLegal S.meaning config (before ++ done ∷ between ++ answer ∷ later)
-        → TakesDone before done client write names
-        → TakesAnswer (before ++ done ∷ between) answer client read seen
-        → HasDoneUpdate (facts_of before).accepted write names seen }
+        → TakesDone S.meaning config before done client write names
+        → TakesAnswer S.meaning config (before ++ done ∷ between) answer client read seen
+        → HasDoneUpdate (facts_of S.meaning config before).accepted write names seen }
 {}
 
 /// Monotonic reads: each answer that a client takes was read after all that its earlier answers were read after.
@@ -73,8 +77,8 @@ pub fn reads_are_monotonic<S: Service>()
         (client : ℕ) (first second : Cid) (seen seen_later : SpotSet)
         → Each (λ step. IsEventOf S.meaning config step.event) (before ++ one ∷ between ++ other ∷ later)
         → IsLegal S.meaning config (before ++ one ∷ between ++ other ∷ later)
-        → TakesAnswer before one client first seen
-        → TakesAnswer (before ++ one ∷ between) other client second seen_later
+        → TakesAnswer S.meaning config before one client first seen
+        → TakesAnswer S.meaning config (before ++ one ∷ between) other client second seen_later
         → seen ⊆ seen_later }
 {}
 
@@ -85,16 +89,16 @@ pub fn writes_are_monotonic<S: Service>()
         (client : ℕ) (first second : Cid) (names : SpotSet) (a : Acceptance S.Op)
         → Each (λ step. IsEventOf S.meaning config step.event) (before ++ done ∷ between ++ call ∷ later)
         → IsLegal S.meaning config (before ++ done ∷ between ++ call ∷ later)
-        → TakesDone before done client first names → CallsUpdate call client second
-        → IsAmong a (facts_of (before ++ done ∷ between ++ call ∷ later)).accepted → a.cid ≡ second
-        → names ⊆ a.below }
+        → TakesDone S.meaning config before done client first names → CallsUpdate call client second
+        → IsAmong a (facts_of S.meaning config (before ++ done ∷ between ++ call ∷ later)).accepted
+        → a.cid ≡ second → names ⊆ a.below }
     ensures done { (config : Config) (before between later : List (Step S.Op)) (done call : Step S.Op)
         (client : ℕ) (first second : Cid) (names : SpotSet) (a : Acceptance S.Op)
         → Each (λ step. IsEventOf S.meaning config step.event) (before ++ done ∷ between ++ call ∷ later)
         → IsLegal S.meaning config (before ++ done ∷ between ++ call ∷ later)
-        → TakesDone before done client first names → CallsUpdate call client second
-        → IsAmong a (facts_of (before ++ done ∷ between ++ call ∷ later)).accepted → a.cid ≡ second
-        → HasDoneUpdate (facts_of before).accepted first names a.below }
+        → TakesDone S.meaning config before done client first names → CallsUpdate call client second
+        → IsAmong a (facts_of S.meaning config (before ++ done ∷ between ++ call ∷ later)).accepted
+        → a.cid ≡ second → HasDoneUpdate (facts_of S.meaning config before).accepted first names a.below }
 {}
 
 /// Writes follow reads: wherever an update is accepted, all that its client's answers were read after before it
@@ -104,9 +108,9 @@ pub fn writes_follow_reads<S: Service>()
         (client : ℕ) (first second : Cid) (seen : SpotSet) (a : Acceptance S.Op)
         → Each (λ step. IsEventOf S.meaning config step.event) (before ++ answer ∷ between ++ call ∷ later)
         → IsLegal S.meaning config (before ++ answer ∷ between ++ call ∷ later)
-        → TakesAnswer before answer client first seen → CallsUpdate call client second
-        → IsAmong a (facts_of (before ++ answer ∷ between ++ call ∷ later)).accepted → a.cid ≡ second
-        → seen ⊆ a.below }
+        → TakesAnswer S.meaning config before answer client first seen → CallsUpdate call client second
+        → IsAmong a (facts_of S.meaning config (before ++ answer ∷ between ++ call ∷ later)).accepted
+        → a.cid ≡ second → seen ⊆ a.below }
 {}
 
 /// Causal order at every replica: with each update all its causes are ready, and the value is that of applying what
@@ -114,27 +118,32 @@ pub fn writes_follow_reads<S: Service>()
 pub fn causes_come_first<S: Service>()
     ensures ready { (config : Config) (steps : List (Step S.Op))
         → Each (λ step. IsEventOf S.meaning config step.event) steps → IsLegal S.meaning config steps
-        → (i : ℕ) (a : Acceptance S.Op) → IsAmong a (facts_of steps).accepted
-        → ready (facts_of steps).accepted ((facts_of steps).received i) a.spot ≡ true
-        → a.below ⊆ ready (facts_of steps).accepted ((facts_of steps).received i) }
+        → (i : ℕ) (a : Acceptance S.Op) → IsAmong a (facts_of S.meaning config steps).accepted
+        → ready (facts_of S.meaning config steps).accepted ((facts_of S.meaning config steps).received i) a.spot ≡ true
+        → a.below ⊆ ready (facts_of S.meaning config steps).accepted ((facts_of S.meaning config steps).received i) }
     ensures order { (config : Config) (steps : List (Step S.Op))
         → Each (λ step. IsEventOf S.meaning config step.event) steps → IsLegal S.meaning config steps
-        → (i : ℕ) → FollowsCauses (ready_as_made steps i) }
+        → (i : ℕ) → FollowsCauses (ready_as_made S.meaning config steps i) }
     ensures value { (config : Config) (steps : List (Step S.Op))
         → Each (λ step. IsEventOf S.meaning config step.event) steps → IsLegal S.meaning config steps
-        → (i : ℕ) → value S.meaning (ready_as_made steps i) everything ≡ value_after S.meaning steps i }
+        → (i : ℕ)
+        → value S.meaning (ready_as_made S.meaning config steps i) everything ≡ value_after S.meaning config steps i }
 {}
 
 /// Convergence: two replicas that received the same acceptances have the same ready, have the same value, and give
 /// every query the same answer.
 pub fn replicas_converge<S: Service>()
-    ensures ready { (steps : List (Step S.Op)) (i j : ℕ) → HaveReceivedAlike (facts_of steps) i j
-        → ready (facts_of steps).accepted ((facts_of steps).received i)
-        ≡ ready (facts_of steps).accepted ((facts_of steps).received j) }
-    ensures value { (steps : List (Step S.Op)) (i j : ℕ) → HaveReceivedAlike (facts_of steps) i j
-        → value_after S.meaning steps i ≡ value_after S.meaning steps j }
-    ensures answer { (steps : List (Step S.Op)) (i j : ℕ) (op : S.Op) → HaveReceivedAlike (facts_of steps) i j
-        → S.meaning.read (value_after S.meaning steps i) op ≡ S.meaning.read (value_after S.meaning steps j) op }
+    ensures ready { (config : Config) (steps : List (Step S.Op)) (i j : ℕ)
+        → HaveReceivedAlike (facts_of S.meaning config steps) i j
+        → ready (facts_of S.meaning config steps).accepted ((facts_of S.meaning config steps).received i)
+        ≡ ready (facts_of S.meaning config steps).accepted ((facts_of S.meaning config steps).received j) }
+    ensures value { (config : Config) (steps : List (Step S.Op)) (i j : ℕ)
+        → HaveReceivedAlike (facts_of S.meaning config steps) i j
+        → value_after S.meaning config steps i ≡ value_after S.meaning config steps j }
+    ensures answer { (config : Config) (steps : List (Step S.Op)) (i j : ℕ) (op : S.Op)
+        → HaveReceivedAlike (facts_of S.meaning config steps) i j
+        → S.meaning.read (value_after S.meaning config steps i) op
+        ≡ S.meaning.read (value_after S.meaning config steps j) op }
 {}
 
 /// Progress: where each replica's gossip to each other was sent and delivered, and nothing was accepted meanwhile,
@@ -143,17 +152,20 @@ pub fn one_round_of_gossip_is_enough<S: Service>()
     ensures received { (config : Config) (before round : List (Step S.Op))
         → Each (λ step. IsEventOf S.meaning config step.event) (before ++ round)
         → IsLegal S.meaning config (before ++ round)
-        → IsRound config round → (facts_of (before ++ round)).accepted ≡ (facts_of before).accepted
-        → (i : ℕ) → i < config.replicas → HasReceivedAll (facts_of (before ++ round)) i }
+        → IsRound config round
+        → (facts_of S.meaning config (before ++ round)).accepted ≡ (facts_of S.meaning config before).accepted
+        → (i : ℕ) → i < config.replicas → HasReceivedAll (facts_of S.meaning config (before ++ round)) i }
     ensures held { (config : Config) (before round : List (Step S.Op))
         → Each (λ step. IsEventOf S.meaning config step.event) (before ++ round)
         → IsLegal S.meaning config (before ++ round)
-        → IsRound config round → (facts_of (before ++ round)).accepted ≡ (facts_of before).accepted
-        → (i : ℕ) → i < config.replicas → (facts_of (before ++ round)).held i ≡ [] }
+        → IsRound config round
+        → (facts_of S.meaning config (before ++ round)).accepted ≡ (facts_of S.meaning config before).accepted
+        → (i : ℕ) → i < config.replicas → (facts_of S.meaning config (before ++ round)).held i ≡ [] }
     ensures value { (config : Config) (before round : List (Step S.Op))
         → Each (λ step. IsEventOf S.meaning config step.event) (before ++ round)
         → IsLegal S.meaning config (before ++ round)
-        → IsRound config round → (facts_of (before ++ round)).accepted ≡ (facts_of before).accepted
+        → IsRound config round
+        → (facts_of S.meaning config (before ++ round)).accepted ≡ (facts_of S.meaning config before).accepted
         → (i j : ℕ) → i < config.replicas → j < config.replicas
-        → value_after S.meaning (before ++ round) i ≡ value_after S.meaning (before ++ round) j }
+        → value_after S.meaning config (before ++ round) i ≡ value_after S.meaning config (before ++ round) j }
 {}

@@ -25,11 +25,12 @@ pub fn a_reply_that_is_not_taken_is_not_legal()
 
 /// In the first history the client is told that the addition is done, and then the answer.
 pub fn a_client_is_told()
-    ensures done { TakesDone (take 2 (add_and_read (Got first_call ∷ []) (codes "3")))
+    ensures done { TakesDone tally small (take 2 (add_and_read (Got first_call ∷ []) (codes "3")))
         (record { event = Deliver 2; outcomes = Got first_call ∷ [] }) 0 first_call
-        (below_of (facts_of (take 2 (add_and_read (Got first_call ∷ []) (codes "3")))).accepted first_spot) }
-    ensures answer { TakesAnswer (take 5 (add_and_read (Got first_call ∷ []) (codes "3")))
+        (below_of (facts_of tally small (take 2 (add_and_read (Got first_call ∷ []) (codes "3")))).accepted
+        first_spot) }
+    ensures answer { TakesAnswer tally small (take 5 (add_and_read (Got first_call ∷ []) (codes "3")))
         (record { event = Deliver 4; outcomes = Got second_call ∷ [] }) 0 second_call
-        (ready (facts_of (take 5 (add_and_read (Got first_call ∷ []) (codes "3")))).accepted
-        ((facts_of (take 5 (add_and_read (Got first_call ∷ []) (codes "3")))).received 0)) }
+        (ready (facts_of tally small (take 5 (add_and_read (Got first_call ∷ []) (codes "3")))).accepted
+        ((facts_of tally small (take 5 (add_and_read (Got first_call ∷ []) (codes "3")))).received 0)) }
 {}

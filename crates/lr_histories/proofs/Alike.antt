@@ -1,18 +1,20 @@
 -- Two meanings that answer alike, whatever was accepted, make the same histories legal.
-use Rattle.std.proofs.Common.{◌≡◌, ◌∙◌, ℕ, suc, Bool, true, false, ◌&&◌, not, List, [], ◌∷◌, ◌++◌, ap, refl, sym}
+use Rattle.std.proofs.Common.{◌≡◌, ◌∙◌, ℕ, suc, Bool, true, false, ◌&&◌, not, List, [], ◌∷◌, ◌++◌, ap, refl, sym, subst}
 use Rattle.std.specs.Prelude.{Option, Some, None, if◌then◌else◌}
 use Rattle.lr_base.specs.Kinds.{is_query}
 use Rattle.lr_base.specs.Meaning.{Meaning}
 use Rattle.lr_base.specs.declared.events.Event.{Event}
 use Rattle.lr_base.specs.declared.events.Event.TheVariants.{Call, Deliver, Gossip, Show}
 use Rattle.lr_base.specs.declared.events.Outcome.{Outcome}
-use Rattle.lr_base.specs.declared.events.Outcome.TheVariants.{Send}
+use Rattle.lr_base.specs.declared.events.Outcome.TheVariants.{Send, Accept, Hold, Take, Got, Stale}
+use Rattle.lr_base.specs.declared.events.Outcome.TheVariants.{NoMessage, Refuse, State}
 use Rattle.lr_base.specs.declared.events.Sent.TheVariants.{Update, Query, Answer}
 use Rattle.lr_base.specs.declared.events.Step.{Step}
 use Rattle.lr_base.specs.declared.names.Actor.{Actor}
 use Rattle.lr_base.specs.declared.names.Actor.TheVariants.{Client, Replica}
 use Rattle.lr_base.specs.declared.names.Config.{Config}
-use Rattle.lr_graph.specs.After.{after, delivery_of, event_read, lines_read, next_call, stepping}
+use Rattle.lr_graph.specs.After.{Handling, after, event_read, handling, line_read, lines_read, next_call}
+use Rattle.lr_graph.specs.After.{step_ended, stepping}
 use Rattle.lr_graph.specs.Graph.{Acceptance, Carried, Facts, LabelledCall, SentMessage}
 use Rattle.lr_graph.specs.Graph.{UpdateCopy, QueryCopy, DoneReply, AnswerReply, GossipOf, Blank}
 use Rattle.lr_graph.specs.Graph.{first_facts, has_call, is_within, ready, value}
@@ -112,19 +114,55 @@ module _ {V W Op : Type 0} {m : Meaning V Op} {n : Meaning W Op} (h : Alike m n)
   same-end w None = refl
   same-end w (Some i) = same-answers w (next_number w) i (w.held i)
 
+  same-line : (config : Config) (x : Handling Op) (w : Facts Op) (line : Outcome)
+      → line_read m config x w line ≡ line_read n config x w line
+  same-line config x w (Send number from to what) = refl
+  same-line config x w (Accept spot cid) = refl
+  same-line config x w (Hold cid) = refl
+  same-line config x w (Take count) = refl
+  same-line config x w (Got cid) = refl
+  same-line config x w (Stale cid) = refl
+  same-line config x w (NoMessage message) = refl
+  same-line config x w (Refuse why) = refl
+  same-line config x w (State line) = refl
+
+  same-lines : (config : Config) (x : Handling Op) (w : Facts Op) (lines : List Outcome)
+      → lines_read m config x w lines ≡ lines_read n config x w lines
+  same-lines config x w [] = refl
+  same-lines config x w (line ∷ lines) =
+      ap (λ (u : Facts Op). lines_read m config x u lines) (same-line config x w line)
+      ∙ same-lines config x (line_read n config x w line) lines
+
+  same-ended : (config : Config) (i : Option ℕ) (w : Facts Op) → step_ended m config i w ≡ step_ended n config i w
+  same-ended config None w = refl
+  same-ended config (Some i) w = refl
+
   same-outcomes : (config : Config) (w : Facts Op) (event : Event Op)
       → outcomes_of m config w event ≡ outcomes_of n config w event
   same-outcomes config w event =
-      let read : List Outcome → Facts Op = lines_read (delivery_of w event) (event_read w event) in
+      let read : List Outcome → Facts Op = lines_read m config (handling w event) (event_read w event) in
       ap (λ own. own ++ answers_at m (read own) (stepping w event)) (same-own config w event)
       ∙ ap (λ end. own_lines n config w event ++ end)
-      (same-end (read (own_lines n config w event)) (stepping w event))
+      (same-end (read (own_lines n config w event)) (stepping w event)
+      ∙ ap (λ (u : Facts Op). answers_at n u (stepping w event))
+      (same-lines config (handling w event) (event_read w event) (own_lines n config w event)))
+
+  same-after : (config : Config) (w : Facts Op) (step : Step Op) → after m config w step ≡ after n config w step
+  same-after config w step =
+      ap (λ (u : Facts Op). step_ended m config (stepping w step.event) u)
+      (same-lines config (handling w step.event) (event_read w step.event) step.outcomes)
+      ∙ same-ended config (stepping w step.event)
+      (lines_read n config (handling w step.event) (event_read w step.event) step.outcomes)
 
   legal-from : (config : Config) (w : Facts Op) (steps : List (Step Op)) → LegalFrom m config w steps
       → LegalFrom n config w steps
   legal-from config w [] legal = tt
   legal-from config w (step ∷ steps) legal =
-      (legal.0 ∙ same-outcomes config w step.event, legal-from config (after w step) steps legal.1)
+      (
+        legal.0 ∙ same-outcomes config w step.event,
+        subst (λ (u : Facts Op). LegalFrom n config u steps) (same-after config w step)
+            (legal-from config (after m config w step) steps legal.1),
+      )
 
   -- what is legal by the one is legal by the other
   pub legal-alike : (config : Config) (steps : List (Step Op)) → IsLegal m config steps → IsLegal n config steps

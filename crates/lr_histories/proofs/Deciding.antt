@@ -32,11 +32,11 @@ module _ {V Op : Type 0} (m : Meaning V Op) (config : Config) where
   -- these events, each with such outcomes
   abbrev made_from : Facts Op → List (Event Op) → List (Step Op)
   made_from w [] = []
-  made_from w (event ∷ events) = made_of w event ∷ made_from (after w (made_of w event)) events
+  made_from w (event ∷ events) = made_of w event ∷ made_from (after m config w (made_of w event)) events
 
   made-legal : (w : Facts Op) (events : List (Event Op)) → LegalFrom m config w (made_from w events)
   made-legal w [] = tt
-  made-legal w (event ∷ events) = (refl, made-legal (after w (made_of w event)) events)
+  made-legal w (event ∷ events) = (refl, made-legal (after m config w (made_of w event)) events)
 
   -- what is made of its events is legal
   pub found-legal : (steps : List (Step Op)) → steps ≡ made_from first_facts (map (λ step. step.event) steps)
@@ -87,7 +87,7 @@ module _ {V Op : Type 0} (m : Meaning V Op) (config : Config) where
   abbrev passes_from : Facts Op → List (Step Op) → Bool
   passes_from w [] = true
   passes_from w (step ∷ steps) =
-      same_numbers step.outcomes (outcomes_of m config w step.event) && passes_from (after w step) steps
+      same_numbers step.outcomes (outcomes_of m config w step.event) && passes_from (after m config w step) steps
 
   legal-passes : (w : Facts Op) (steps : List (Step Op)) → LegalFrom m config w steps → passes_from w steps ≡ true
   legal-passes w [] legal = refl
@@ -95,7 +95,7 @@ module _ {V Op : Type 0} (m : Meaning V Op) (config : Config) where
       let own : same_numbers step.outcomes (outcomes_of m config w step.event) ≡ true
       = ap (same_numbers step.outcomes) (sym legal.0)
       ∙ (eq_by_cmp_equiv nat_list_cmp_total).refl (flat_map of_outcome step.outcomes) in
-      ap (λ b. b && passes_from (after w step) steps) own ∙ legal-passes (after w step) steps legal.1
+      ap (λ b. b && passes_from (after m config w step) steps) own ∙ legal-passes (after m config w step) steps legal.1
 
   -- what doesn't pass isn't legal
   pub refuted : (steps : List (Step Op)) → passes_from first_facts steps ≡ false → IsLegal m config steps → ⊥

@@ -21,7 +21,7 @@ module _ {Value Op : Type 0} (m : Meaning Value Op) (config : Config) where
   legal-of law steps run made = ∥∥₁_elim made (IsLegal-prop m config steps) (λ it. law config steps run it)
 
   -- the facts have as many messages as were sent
-  pub sent-of : ((config : Config) (steps : List (Step Op)) (run : RunState Value Op) → IsMade m config steps run → IsCentral config (facts_after first_facts steps) run) → (steps : List (Step Op)) (run : RunState Value Op) → ∥ IsMade m config steps run ∥₁ → length run.posted ≡ length (facts_after first_facts steps).messages
+  pub sent-of : ((config : Config) (steps : List (Step Op)) (run : RunState Value Op) → IsMade m config steps run → IsCentral config (facts_after m config first_facts steps) run) → (steps : List (Step Op)) (run : RunState Value Op) → ∥ IsMade m config steps run ∥₁ → length run.posted ≡ length (facts_after m config first_facts steps).messages
   sent-of law steps run made = ∥∥₁_elim made (Coded-set coded_ℕ _ _) (λ it. sym (law config steps run it).count)
 
   -- a step that was made goes on with the history, under the same configuration by another name

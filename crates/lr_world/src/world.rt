@@ -67,7 +67,7 @@ impl<S: Service> World<S> {
 
     /// How many messages were sent. They are numbered from 1.
     pub fn sent(&self) -> u64
-        ensures { result ≡ length (facts_after first_facts self.now.steps).messages }
+        ensures { result ≡ length (facts_after S.meaning self.now.config first_facts self.now.steps).messages }
     {
         stamps_stand_for_sets::<S>();
         self.run.sent()

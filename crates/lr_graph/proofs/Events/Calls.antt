@@ -30,6 +30,7 @@ use Rattle.lr_graph.proofs.Replicas.Posting.{message-sent, posting}
 use Rattle.lr_graph.proofs.Related.Relation.{IsIssued, IsOpen, IsSame, IsShared, IsWay, SameCall, SameCarried, SameFront, calls_in, same_query, same_update}
 use Rattle.lr_graph.proofs.Replicas.Stepping.{put-same}
 use Rattle.lr_graph.proofs.Lists.Tests.{same_cid-is, same_cid-self}
+use Rattle.lr_graph.proofs.Handled.{alone}
 
 module _ {Value Op : Type 0} (m : Meaning Value Op) (config : Config) where
   module _ (w : Facts Op) (v : RunState Value Op) (same : IsSame m config w v) (client replica reading : ℕ) (op : Op) (here : client < config.clients) (other : replica < config.replicas) (plain : has_rules (m.kind op) ≡ true)
@@ -44,7 +45,7 @@ module _ {Value Op : Type 0} (m : Meaning Value Op) (config : Config) where
     abbrev pub Calls : Option (LabelledCall Op) → Bool → Stepped Value Op → Type 0
     Calls o worn s =
         (s.outcomes ≡ call_lines m w client replica (max facts.clock reading) op o worn ++ [])
-        × IsSame m config (lines_read None (record w { front = put_at client (call_read client reading op facts o worn) w.front }) (call_lines m w client replica (max facts.clock reading) op o worn ++ [])) s.run
+        × IsSame m config (lines_read m config (alone (Some (Client client))) (record w { front = put_at client (call_read client reading op facts o worn) w.front }) (call_lines m w client replica (max facts.clock reading) op o worn ++ [])) s.run
 
     -- a refused call's reading counts
     refused : (o : Option (LabelledCall Op)) → facts.open_call ≡ o
@@ -114,7 +115,7 @@ module _ {Value Op : Type 0} (m : Meaning Value Op) (config : Config) where
     sends : (what : Carried Op) (sent : Sent) (message : Message Op) → IsWay (Client client) (Replica replica) what → carried w1 (Client client) sent ≡ what → sent ≡ sent_of_message message
         → SameCarried m config w.accepted w.received more (calls_in w1) what message
         → (act_lines (length v.posted) (Client client) (Send (Replica replica) message ∷ []) ≡ SendLine (next_number w) (Client client) (Replica replica) sent ∷ [])
-        × IsSame m config (lines_read None w1 (SendLine (next_number w) (Client client) (Replica replica) sent ∷ [])) (record (with_front v client (called reading front)) { posted = v.posted ++ posting (Client client) (Replica replica) message ∷ [] })
+        × IsSame m config (lines_read m config (alone (Some (Client client))) w1 (SendLine (next_number w) (Client client) (Replica replica) sent ∷ [])) (record (with_front v client (called reading front)) { posted = v.posted ++ posting (Client client) (Replica replica) message ∷ [] })
     sends what sent message way reads says carries = (
       (λ k. SendLine (sym next_is k) (Client client) (Replica replica) (sym says k) ∷ []),
       record {
@@ -153,14 +154,14 @@ module _ {Value Op : Type 0} (m : Meaning Value Op) (config : Config) where
             let out = sends (QueryCopy call) (QuerySent call.cid) (Query by_rules) tt (reads_copy QueryCopy) (ap QuerySent cid_is) (same_query call by_rules same_call is_issued) in
             subst₂ (λ (b : Bool) (message : Message Op).
             (act_lines (length v.posted) (Client client) (Send (Replica replica) message ∷ []) ≡ SendLine (next_number w) (Client client) (Replica replica) (cond b (QuerySent call.cid) (UpdateSent call.cid (max facts.clock reading))) ∷ [])
-            × IsSame m config (lines_read None w1 (SendLine (next_number w) (Client client) (Replica replica) (cond b (QuerySent call.cid) (UpdateSent call.cid (max facts.clock reading))) ∷ [])) (record (with_front v client (called reading front)) { posted = v.posted ++ posting (Client client) (Replica replica) message ∷ [] }))
+            × IsSame m config (lines_read m config (alone (Some (Client client))) w1 (SendLine (next_number w) (Client client) (Replica replica) (cond b (QuerySent call.cid) (UpdateSent call.cid (max facts.clock reading))) ∷ [])) (record (with_front v client (called reading front)) { posted = v.posted ++ posting (Client client) (Replica replica) message ∷ [] }))
             (sym q) (sym (p ∙ ap (λ b. cond b (Query by_rules) (Update by_rules (max front.clock reading))) q)) out
         by_query false q p =
             let out = sends (UpdateCopy call (max facts.clock reading)) (UpdateSent call.cid (max facts.clock reading)) (Update by_rules (max front.clock reading)) tt
             (reads_copy (λ c. UpdateCopy c (max facts.clock reading))) (λ k. UpdateSent (cid_is k) (clock_is k)) (same_update call by_rules (max facts.clock reading) (max front.clock reading) same_call clock_is is_issued q plain) in
             subst₂ (λ (b : Bool) (message : Message Op).
             (act_lines (length v.posted) (Client client) (Send (Replica replica) message ∷ []) ≡ SendLine (next_number w) (Client client) (Replica replica) (cond b (QuerySent call.cid) (UpdateSent call.cid (max facts.clock reading))) ∷ [])
-            × IsSame m config (lines_read None w1 (SendLine (next_number w) (Client client) (Replica replica) (cond b (QuerySent call.cid) (UpdateSent call.cid (max facts.clock reading))) ∷ [])) (record (with_front v client (called reading front)) { posted = v.posted ++ posting (Client client) (Replica replica) message ∷ [] }))
+            × IsSame m config (lines_read m config (alone (Some (Client client))) w1 (SendLine (next_number w) (Client client) (Replica replica) (cond b (QuerySent call.cid) (UpdateSent call.cid (max facts.clock reading))) ∷ [])) (record (with_front v client (called reading front)) { posted = v.posted ++ posting (Client client) (Replica replica) message ∷ [] }))
             (sym q) (sym (p ∙ ap (λ b. cond b (Query by_rules) (Update by_rules (max front.clock reading))) q)) out
 
     pub calls-same : (o : Option (LabelledCall Op)) (cid : Option Cid) → facts.open_call ≡ o → option_map (λ c. c.cid) o ≡ cid → (s t : Bool) → s ≡ t → Calls o s (front_ended v client (front_on_call (m.kind op) (Replica replica) reading op front cid t))

@@ -21,7 +21,7 @@ use Rattle.lr_base.specs.declared.messages.Message.TheVariants.{Gossip as Gossip
 use Rattle.lr_base.specs.declared.names.Actor.{Actor}
 use Rattle.lr_base.specs.declared.names.Actor.TheVariants.{Client, Replica}
 use Rattle.lr_base.specs.declared.names.Config.{Config}
-use Rattle.lr_graph.specs.After.{after, lines_read, receiving}
+use Rattle.lr_graph.specs.After.{after, lines_read, Handling}
 use Rattle.lr_graph.specs.Graph.{Carried, Facts, SentMessage}
 use Rattle.lr_graph.specs.Legal.{delivery_lines, logged, message_lines, next_number, outcomes_of}
 use Rattle.lr_graph.specs.Runs.{RunState, Stepped, client_called, delivered, front_ended, front_given, given, message_at, replica_ended, replica_given, replica_gossips, shown, stepped, unchanged}
@@ -33,11 +33,12 @@ use Rattle.lr_graph.proofs.Replicas.Stepping.{IsStep, step-ends}
 use Rattle.lr_graph.proofs.Lists.Tests.{never}
 use Rattle.lr_graph.proofs.Events.Calls.{calls-same}
 use Rattle.lr_graph.proofs.Events.Replies.{front-given}
+use Rattle.lr_graph.proofs.Handled.{alone, came_in, receiving}
 
 -- the step is the same on both sides
 pub record IsSameStep {Value Op : Type 0} (m : Meaning Value Op) (config : Config) (w : Facts Op) (event : Event Op) (s : Stepped Value Op) : Type 0 where
   pub lines : s.outcomes ≡ outcomes_of m config w event
-  pub same : IsSame m config (after w (record { event = event; outcomes = outcomes_of m config w event })) s.run
+  pub same : IsSame m config (after m config w (record { event = event; outcomes = outcomes_of m config w event })) s.run
 
 module _ {Value Op : Type 0} (m : Meaning Value Op) (kind_of : Op → Kind) (lawful : Lawful m kind_of) (config : Config) where
   -- ---- a message is delivered
@@ -45,10 +46,10 @@ module _ {Value Op : Type 0} (m : Meaning Value Op) (kind_of : Op → Kind) (law
   module _ (w : Facts Op) (v : RunState Value Op) (same : IsSame m config w v) where
     -- what a delivery is to give
     abbrev Delivers : ℕ → Option (SentMessage Op) → Stepped Value Op → Type 0
-    Delivers n x s = IsStep m config w x (receiving x) (delivery_lines m config w n x) s.outcomes s.run
+    Delivers n x s = IsStep m config w (came_in x) (receiving x) (delivery_lines m config w n x) s.outcomes s.run
 
     -- a replica of the run makes a step that ends so
-    abbrev Makes : Option (SentMessage Op) → ℕ → List Outcome → Stepped Value Op → Type 0
+    abbrev Makes : Handling Op → ℕ → List Outcome → Stepped Value Op → Type 0
     Makes x i own s = IsStep m config w x (Some i) own s.outcomes s.run
 
     -- the state of a replica, with its place
@@ -69,7 +70,7 @@ module _ {Value Op : Type 0} (m : Meaning Value Op) (kind_of : Op → Kind) (law
             let replica = r.0 in
             let x : Option (SentMessage Op) = Some (record { number = number; from = from; to = Replica i; what = what }) in
             let part = own-part m config same.issued w v same.shared i within replica.causal r.1.3 (λ j apart inside. same.replicas j inside) number from what message way carries in
-            let step = step-ends m kind_of lawful config same.issued w v i within replica r.1.0 r.1.1 r.1.2 x (message_lines m config w (Replica i) what) (own_taken m config i replica.causal from message) part in
+            let step = step-ends m kind_of lawful config same.issued w v i within replica r.1.0 r.1.1 r.1.2 (came_in x) (message_lines m config w (Replica i) what) (own_taken m config i replica.causal from message) part in
             subst (λ (o : Option (ReplicaState Value Op)). Delivers n x (replica_given m v i from message o)) (sym r.1.0)
             (subst (λ (c : Config). Delivers n x (replica_ended v i replica (taken m c replica.me replica.causal from message))) (sym r.1.1)
             (subst (λ (k : ℕ). Delivers n x (replica_ended v i replica (taken m config k replica.causal from message))) (sym r.1.2) step))
@@ -81,7 +82,7 @@ module _ {Value Op : Type 0} (m : Meaning Value Op) (kind_of : Op → Kind) (law
         let gives = front-given m config w v same client within front.0 front.1 front.2 from what message way carries in
         subst (λ (o : Option FrontState). Delivers n (Some (record { number = number; from = from; to = Client client; what = what })) (front_given v client message o)) (sym front.1) (record {
           lines = gives.0 ∙ sym (append-nil (message_lines m config w (Client client) what));
-          same = subst (λ (lines : List Outcome). IsSame m config (lines_read (Some (record { number = number; from = from; to = Client client; what = what })) w lines) (front_ended v client (front_on_message message front.0)).run) (sym (append-nil (message_lines m config w (Client client) what))) (gives.1 number from);
+          same = subst (λ (lines : List Outcome). IsSame m config (lines_read m config (came_in (Some (record { number = number; from = from; to = Client client; what = what }))) w lines) (front_ended v client (front_on_message message front.0)).run) (sym (append-nil (message_lines m config w (Client client) what))) (gives.1 number from);
         })
 
     to_actor : (n number : ℕ) (from : Actor) (what : Carried Op) (to : Actor) → IsThere config to → IsWay from to what → (message : Message Op) → SameCarried m config w.accepted w.received same.issued (calls_in w) what message
@@ -99,19 +100,19 @@ module _ {Value Op : Type 0} (m : Meaning Value Op) (kind_of : Op → Kind) (law
     -- ---- a replica sends gossip
 
     gossips : (i to : ℕ) → i < config.replicas → to < config.replicas → i ≢ to
-        → Makes None i (SendLine (next_number w) (Replica i) (Replica to) GossipSent ∷ []) (replica_gossips m v i to (slice_get v.replicas i))
+        → Makes (alone (Some (Replica i))) i (SendLine (next_number w) (Replica i) (Replica to) GossipSent ∷ []) (replica_gossips m v i to (slice_get v.replicas i))
     gossips i to within other apart = by_rules (at_replica i within)
       where
         several : (config.replicas == 1) ≡ false
         several = never _ (λ e. let one = eqb-true config.replicas 1 e in apart (omega arith))
 
-        by_rules : (replica : ReplicaState Value Op) × AtReplica i replica → Makes None i (SendLine (next_number w) (Replica i) (Replica to) GossipSent ∷ []) (replica_gossips m v i to (slice_get v.replicas i))
+        by_rules : (replica : ReplicaState Value Op) × AtReplica i replica → Makes (alone (Some (Replica i))) i (SendLine (next_number w) (Replica i) (Replica to) GossipSent ∷ []) (replica_gossips m v i to (slice_get v.replicas i))
         by_rules r =
             let replica = r.0 in
             let part = own-sent m config same.issued w v same.shared i within replica.causal r.1.3 (λ j apart inside. same.replicas j inside) to other apart several in
-            let step = step-ends m kind_of lawful config same.issued w v i within replica r.1.0 r.1.1 r.1.2 None (SendLine (next_number w) (Replica i) (Replica to) GossipSent ∷ []) (record { state = replica.causal; acts = Send (Replica to) (GossipMessage (gossip_of replica.causal)) ∷ [] }) part in
-            subst (λ (o : Option (ReplicaState Value Op)). Makes None i (SendLine (next_number w) (Replica i) (Replica to) GossipSent ∷ []) (replica_gossips m v i to o)) (sym r.1.0)
-            (subst (λ (c : Config). Makes None i (SendLine (next_number w) (Replica i) (Replica to) GossipSent ∷ []) (replica_ended v i replica (gossiped m c.replicas to replica.causal))) (sym r.1.1) step)
+            let step = step-ends m kind_of lawful config same.issued w v i within replica r.1.0 r.1.1 r.1.2 (alone (Some (Replica i))) (SendLine (next_number w) (Replica i) (Replica to) GossipSent ∷ []) (record { state = replica.causal; acts = Send (Replica to) (GossipMessage (gossip_of replica.causal)) ∷ [] }) part in
+            subst (λ (o : Option (ReplicaState Value Op)). Makes (alone (Some (Replica i))) i (SendLine (next_number w) (Replica i) (Replica to) GossipSent ∷ []) (replica_gossips m v i to o)) (sym r.1.0)
+            (subst (λ (c : Config). Makes (alone (Some (Replica i))) i (SendLine (next_number w) (Replica i) (Replica to) GossipSent ∷ []) (replica_ended v i replica (gossiped m c.replicas to replica.causal))) (sym r.1.1) step)
 
   -- ---- any event
 

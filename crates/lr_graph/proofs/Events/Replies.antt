@@ -26,6 +26,7 @@ use Rattle.lr_graph.proofs.Lists.Members.{each-at, each-from, each-map}
 use Rattle.lr_graph.proofs.Sets.ReadySets.{names-join}
 use Rattle.lr_graph.proofs.Related.Relation.{IsOpen, IsSame, IsWay, SameCarried, SameFront, calls_in, same_answer, same_done, same_gossip, same_query, same_update}
 use Rattle.lr_graph.proofs.Lists.Tests.{or-cases, or-left, or-right}
+use Rattle.lr_graph.proofs.Handled.{came_in}
 
 -- two sets of acceptances make one
 pub set-both : {Op : Type 0} (l : List (Acceptance Op)) (x y : SpotSet) → IsSetOf l x → IsSetOf l y → IsSetOf l (x ∪ y)
@@ -83,7 +84,7 @@ module _ {Value Op : Type 0} (m : Meaning Value Op) (config : Config) where
     abbrev pub Given : Carried Op → FrontEnding Op → List Outcome → Type 0
     Given what end lines =
         ((front_ended v client end).outcomes ≡ lines)
-        × ((number : ℕ) (from : Actor) → IsSame m config (lines_read (Some (record { number = number; from = from; to = Client client; what = what })) w lines) (front_ended v client end).run)
+        × ((number : ℕ) (from : Actor) → IsSame m config (lines_read m config (came_in (Some (record { number = number; from = from; to = Client client; what = what }))) w lines) (front_ended v client end).run)
 
     -- the front end after a reply, which is taken or not, with what it says
     abbrev reply_end : Cid → List ℕ → Bool → FrontEnding Op
@@ -101,7 +102,7 @@ module _ {Value Op : Type 0} (m : Meaning Value Op) (config : Config) where
     not_taken number from = says-only m config w (with_front v client front) unchanged_front
 
     reply : (what : Carried Op) (names : SpotSet) (cid other : Cid) (stamp : List ℕ) → cid ≡ other → Names stamp names → IsSetOf w.accepted names
-        → ((number : ℕ) (from : Actor) → lines_read (Some (record { number = number; from = from; to = Client client; what = what })) w (Got cid ∷ []) ≡ takes_reply w client names)
+        → ((number : ℕ) (from : Actor) → lines_read m config (came_in (Some (record { number = number; from = from; to = Client client; what = what }))) w (Got cid ∷ []) ≡ takes_reply w client names)
         → (open_call : Option (LabelledCall Op)) (open_cid : Option Cid) → option_map (λ c. c.cid) open_call ≡ open_cid
         → Given what (reply_end other stamp (is_open open_cid other)) (reply_line open_call cid ∷ [])
     reply what names cid other stamp same_cids named set reads None None e = (λ k. Stale (sym same_cids k) ∷ [], not_taken)

@@ -143,13 +143,13 @@ module _ {Value Op : Type 0} (m : Meaning Value Op) (config : Config) where
 
 module _ {Value Op : Type 0} (m : Meaning Value Op) (kind_of : Op → Kind) (lawful : Lawful m kind_of) (config : Config) where
   -- what is made from a run is legal after the facts that belong to it, and the facts and the run after it belong together
-  made-same : (steps : List (Step Op)) (w : Facts Op) (v run : RunState Value Op) → IsMadeFrom m config v steps run → IsSame m config w v → LegalFrom m config w steps × IsSame m config (facts_after w steps) run
+  made-same : (steps : List (Step Op)) (w : Facts Op) (v run : RunState Value Op) → IsMadeFrom m config v steps run → IsSame m config w v → LegalFrom m config w steps × IsSame m config (facts_after m config w steps) run
   made-same [] w v run made same = (tt, subst (IsSame m config w) made same)
   made-same (step ∷ steps) w v run made same =
       let one = same-step m kind_of lawful config w v same step.event made.0 in
       let lines = made.1 ∙ one.lines in
-      let rest = made-same steps (after w step) (stepped m v step.event).run run made.2
-      (subst (λ (lines : List Outcome). IsSame m config (after w (record { event = step.event; outcomes = lines })) (stepped m v step.event).run) (sym lines) one.same) in
+      let rest = made-same steps (after m config w step) (stepped m v step.event).run run made.2
+      (subst (λ (lines : List Outcome). IsSame m config (after m config w (record { event = step.event; outcomes = lines })) (stepped m v step.event).run) (sym lines) one.same) in
       ((lines, rest.0), rest.1)
 
   -- what is made is legal
@@ -157,7 +157,7 @@ module _ {Value Op : Type 0} (m : Meaning Value Op) (kind_of : Op → Kind) (law
   made-legal steps run made = (made-same steps first_facts (first_run m config) run made (first-same m config)).0
 
   -- the run after what is made and the facts of its history belong together
-  pub same-after : (steps : List (Step Op)) (run : RunState Value Op) → IsMade m config steps run → IsSame m config (facts_after first_facts steps) run
+  pub same-after : (steps : List (Step Op)) (run : RunState Value Op) → IsMade m config steps run → IsSame m config (facts_after m config first_facts steps) run
   same-after steps run made = (made-same steps first_facts (first_run m config) run made (first-same m config)).1
 
 -- ---- what is made
@@ -197,4 +197,4 @@ one-history {Value} {Op} m config (s ∷ one) (t ∷ other) w f g e =
     let rest : map (λ (step : Step Op). step.event) one ≡ map (λ (step : Step Op). step.event) other = cc in
     let outcomes : s.outcomes ≡ t.outcomes = f.0 ∙ ap (Rattle.lr_graph.specs.Legal.outcomes_of m config w) events ∙ sym g.0 in
     let same : s ≡ t = λ i. record { event = events i; outcomes = outcomes i } in
-    λ i. same i ∷ one-history m config one other (after w s) f.1 (subst (λ (step : Step Op). LegalFrom m config (after w step) other) (sym same) g.1) rest i
+    λ i. same i ∷ one-history m config one other (after m config w s) f.1 (subst (λ (step : Step Op). LegalFrom m config (after m config w step) other) (sym same) g.1) rest i

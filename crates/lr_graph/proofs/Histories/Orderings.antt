@@ -223,21 +223,21 @@ module _ {Value Op : Type 0} (m : Meaning Value Op) (kind_of : Op → Kind) (law
 
   -- the facts after a legal history are those of the run that its events make
   pub legal-same : (steps : List (Step Op)) → Each (λ step. IsEventOf m config step.event) steps → IsLegal m config steps
-      → IsSame m config (facts_after first_facts steps) (run_after m (first_run m config) (map (λ step. step.event) steps))
+      → IsSame m config (facts_after m config first_facts steps) (run_after m (first_run m config) (map (λ step. step.event) steps))
   legal-same steps fit legal =
       let events = map (λ (step : Step Op). step.event) steps in
       let first = first_run m config in
       let made = steps-made m config events first (events_fit steps fit) in
       let history = history_of m config events in
       let one : history ≡ steps = one-history m config history steps first_facts (made-legal m kind_of lawful config history (run_after m first events) made) legal (history-events m first events) in
-      subst (λ (steps : List (Step Op)). IsSame m config (facts_after first_facts steps) (run_after m first events)) one (same-after m kind_of lawful config history (run_after m first events) made)
+      subst (λ (steps : List (Step Op)). IsSame m config (facts_after m config first_facts steps) (run_after m first events)) one (same-after m kind_of lawful config history (run_after m first events) made)
 
   -- every order of what is ready gives the replica's value
   pub every-order : (steps : List (Step Op)) → Each (λ step. IsEventOf m config step.event) steps → IsLegal m config steps → (i : ℕ) (order : List (Acceptance Op))
-      → IsOrderOf (facts_after first_facts steps).accepted (ready (facts_after first_facts steps).accepted ((facts_after first_facts steps).received i)) order
-      → value m order everything ≡ value m (facts_after first_facts steps).accepted (ready (facts_after first_facts steps).accepted ((facts_after first_facts steps).received i))
+      → IsOrderOf (facts_after m config first_facts steps).accepted (ready (facts_after m config first_facts steps).accepted ((facts_after m config first_facts steps).received i)) order
+      → value m order everything ≡ value m (facts_after m config first_facts steps).accepted (ready (facts_after m config first_facts steps).accepted ((facts_after m config first_facts steps).received i))
   every-order steps fit legal i order is =
-      let w = facts_after first_facts steps in
+      let w = facts_after m config first_facts steps in
       let same = legal-same steps fit legal in
       let set = ready w.accepted (w.received i) in
       let free = all-free m config same.issued (calls_in w) w.accepted same.shared.each in
@@ -245,8 +245,8 @@ module _ {Value Op : Type 0} (m : Meaning Value Op) (kind_of : Op → Kind) (law
 
   -- what is ready in the order of making is one of these
   pub ready-order : (steps : List (Step Op)) → Each (λ step. IsEventOf m config step.event) steps → IsLegal m config steps → (i : ℕ)
-      → IsOrderOf (facts_after first_facts steps).accepted (ready (facts_after first_facts steps).accepted ((facts_after first_facts steps).received i))
-      (filter (λ a. ready (facts_after first_facts steps).accepted ((facts_after first_facts steps).received i) a.spot) (facts_after first_facts steps).accepted)
+      → IsOrderOf (facts_after m config first_facts steps).accepted (ready (facts_after m config first_facts steps).accepted ((facts_after m config first_facts steps).received i))
+      (filter (λ a. ready (facts_after m config first_facts steps).accepted ((facts_after m config first_facts steps).received i) a.spot) (facts_after m config first_facts steps).accepted)
   ready-order steps fit legal i =
-      let w = facts_after first_facts steps in
+      let w = facts_after m config first_facts steps in
       made-order w.accepted (ready w.accepted (w.received i)) (legal-same steps fit legal).shared.sound

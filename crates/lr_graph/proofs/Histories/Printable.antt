@@ -11,7 +11,7 @@ use Rattle.lr_base.specs.declared.events.Step.{Step}
 use Rattle.lr_base.specs.declared.lr_service.Kind.{Kind}
 use Rattle.lr_base.specs.declared.names.Actor.TheVariants.{Client, Replica}
 use Rattle.lr_base.specs.declared.names.Config.{Config}
-use Rattle.lr_graph.specs.After.{after, delivery_of, event_read, lines_read, next_call, stepping}
+use Rattle.lr_graph.specs.After.{after, delivery_of, event_read, lines_read, next_call, stepping, handling}
 use Rattle.lr_graph.specs.Answers.{CallsOp, HasPrintableAnswer}
 use Rattle.lr_graph.specs.Closed.{Each}
 use Rattle.lr_graph.specs.Graph.{Acceptance, Facts, LabelledCall, first_facts, has_call, ready, value}
@@ -86,7 +86,7 @@ module _ {Value Op : Type 0} (m : Meaning Value Op) (kind_of : Op → Kind) (law
   event-printable : (config : Config) (w : Facts Op) (event : Event Op) → CallsOp m event → Holds (IsOp m) w → Each HasPrintableAnswer (outcomes_of m config w event)
   event-printable config w event is h =
       let own = own_lines m config w event in
-      let mid = lines_read (delivery_of w event) (event_read w event) own in
+      let mid = lines_read m config (handling w event) (event_read w event) own in
       let fine = answers-fine mid (own-fine m (IsOp m) config w event (calls-ops m event is) h) in
       each-append HasPrintableAnswer own (answers_at m mid (stepping w event)) (own-printable config w event h)
       (others-printable _ (answers_at-other m IsPrinted mid fine (stepping w event)))
@@ -95,7 +95,7 @@ module _ {Value Op : Type 0} (m : Meaning Value Op) (kind_of : Op → Kind) (law
   from-printable config w [] ops legal h = tt
   from-printable config w (step ∷ steps) ops legal h = (
     subst (λ (lines : List Outcome). Each HasPrintableAnswer lines) (sym legal.0) (event-printable config w step.event ops.0 h),
-    from-printable config (after w step) steps ops.1 legal.1 (step-fine m (IsOp m) config w step (calls-ops m step.event ops.0) legal.0 h),
+    from-printable config (after m config w step) steps ops.1 legal.1 (step-fine m (IsOp m) config w step (calls-ops m step.event ops.0) legal.0 h),
   )
 
   pub answers-printable : (config : Config) (steps : List (Step Op)) → Each (λ step. CallsOp m step.event) steps → IsLegal m config steps → Each (λ step. Each HasPrintableAnswer step.outcomes) steps

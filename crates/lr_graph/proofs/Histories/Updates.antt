@@ -17,7 +17,7 @@ use Rattle.lr_base.specs.declared.names.Actor.TheVariants.{Client, Replica}
 use Rattle.lr_base.specs.declared.names.Cid.{Cid}
 use Rattle.lr_base.specs.declared.names.Config.{Config}
 use Rattle.lr_base.specs.declared.names.Spot.{Spot}
-use Rattle.lr_graph.specs.After.{accept_read, after, call_read, carried, copy_of, delivery_of, event_read, got_read, hold_read, line_read, lines_read, next_call, step_ended, stepping, take_read}
+use Rattle.lr_graph.specs.After.{accept_read, after, call_read, carried, copy_of, delivery_of, event_read, got_read, hold_read, line_read, lines_read, next_call, step_ended, stepping, take_read, handling, Handling, with_message}
 use Rattle.lr_graph.specs.Central.{facts_after}
 use Rattle.lr_graph.specs.Closed.{Each}
 use Rattle.lr_graph.specs.Graph.{Acceptance, Carried, Facts, FrontFacts, LabelledCall, SentMessage, UpdateCopy, QueryCopy, DoneReply, AnswerReply, GossipOf, Blank, first_facts, is_within, ready, value}
@@ -28,6 +28,7 @@ use Rattle.lr_graph.specs.declared.facts.items.AcceptedUpdate.{AcceptedUpdate}
 use Rattle.lr_graph.specs.declared.facts.items.Gathered.{Gathered}
 use Rattle.lr_graph.proofs.Lists.Members.{each-from}
 use Rattle.lr_graph.proofs.Replicas.Stepping.{lines_read-append}
+use Rattle.lr_graph.proofs.Handled.{alone}
 
 -- a line that sends no copy of an update, and no answer but one of which A holds
 abbrev pub IsOther : (List ℕ → Type 0) → Outcome → Type 0
@@ -84,12 +85,13 @@ module _ {Op : Type 0} (P : Op → Type 0) where
   query-fine None = tt
   query-fine (Some call) = tt
 
-  -- ---- lines
+-- ---- lines
 
-  sent-fine : (w : Facts Op) (number : ℕ) (from to : Actor) (what : Sent) → IsFine (carried w from what) → Holds w → (x : Option (SentMessage Op)) → Holds (line_read x w (Send number from to what))
+module _ {Value Op : Type 0} (m : Meaning Value Op) (config : Config) (P : Op → Type 0) where
+  sent-fine : (w : Facts Op) (number : ℕ) (from to : Actor) (what : Sent) → IsFine P (carried w from what) → Holds P w → (x : Handling Op) → Holds P (line_read m config x w (Send number from to what))
   sent-fine w number from to what fine h x = record { accepted = h.accepted; messages = (fine, h.messages) }
 
-  accept-fine : (w : Facts Op) (spot : Spot) (to : Actor) (what : Carried Op) → IsFine what → Holds w → Holds (accept_read w spot to what)
+  accept-fine : (w : Facts Op) (spot : Spot) (to : Actor) (what : Carried Op) → IsFine P what → Holds P w → Holds P (accept_read w spot to what)
   accept-fine w spot (Client c) what fine h = h
   accept-fine w spot (Replica i) (UpdateCopy call time) fine h = record { accepted = (fine, h.accepted); messages = h.messages }
   accept-fine w spot (Replica i) (QueryCopy call) fine h = h
@@ -98,7 +100,7 @@ module _ {Op : Type 0} (P : Op → Type 0) where
   accept-fine w spot (Replica i) (GossipOf names) fine h = h
   accept-fine w spot (Replica i) Blank fine h = h
 
-  hold-fine : (w : Facts Op) (to : Actor) (what : Carried Op) → Holds w → Holds (hold_read w to what)
+  hold-fine : (w : Facts Op) (to : Actor) (what : Carried Op) → Holds P w → Holds P (hold_read w to what)
   hold-fine w (Client c) what h = h
   hold-fine w (Replica i) (UpdateCopy call time) h = h
   hold-fine w (Replica i) (QueryCopy call) h = record { accepted = h.accepted; messages = h.messages }
@@ -107,7 +109,7 @@ module _ {Op : Type 0} (P : Op → Type 0) where
   hold-fine w (Replica i) (GossipOf names) h = h
   hold-fine w (Replica i) Blank h = h
 
-  take-fine : (w : Facts Op) (to : Actor) (what : Carried Op) → Holds w → Holds (take_read w to what)
+  take-fine : (w : Facts Op) (to : Actor) (what : Carried Op) → Holds P w → Holds P (take_read w to what)
   take-fine w (Client c) what h = h
   take-fine w (Replica i) (UpdateCopy call time) h = h
   take-fine w (Replica i) (QueryCopy call) h = h
@@ -116,7 +118,7 @@ module _ {Op : Type 0} (P : Op → Type 0) where
   take-fine w (Replica i) (GossipOf names) h = record { accepted = h.accepted; messages = h.messages }
   take-fine w (Replica i) Blank h = h
 
-  got-fine : (w : Facts Op) (to : Actor) (what : Carried Op) → Holds w → Holds (got_read w to what)
+  got-fine : (w : Facts Op) (to : Actor) (what : Carried Op) → Holds P w → Holds P (got_read w to what)
   got-fine w (Replica i) what h = h
   got-fine w (Client c) (UpdateCopy call time) h = h
   got-fine w (Client c) (QueryCopy call) h = h
@@ -125,28 +127,30 @@ module _ {Op : Type 0} (P : Op → Type 0) where
   got-fine w (Client c) (GossipOf names) h = h
   got-fine w (Client c) Blank h = h
 
-  line-fine : (A : List ℕ → Type 0) (x : Option (SentMessage Op)) (w : Facts Op) (line : Outcome) → CameFine x → IsOther A line → Holds w → Holds (line_read x w line)
+  -- what comes leaves it so, where it came
+  came-read : (w : Facts Op) (read : Actor → Carried Op → Facts Op) → ((to : Actor) (what : Carried Op) → IsFine P what → Holds P w → Holds P (read to what))
+      → (o : Option (SentMessage Op)) → CameFine P o → Holds P w → Holds P (with_message w o read)
+  came-read w read fine None came h = h
+  came-read w read fine (Some x) came h = fine x.to x.what came h
+
+  line-fine : (A : List ℕ → Type 0) (x : Handling Op) (w : Facts Op) (line : Outcome) → CameFine P x.came → IsOther A line → Holds P w → Holds P (line_read m config x w line)
   line-fine A x w (Send number from to (Update cid time)) came other h = absurd other
-  line-fine A x w (Send number from to (Query cid)) came other h = sent-fine w number from to (Query cid) (query-fine (w.front cid.client).open_call) h x
+  line-fine A x w (Send number from to (Query cid)) came other h = sent-fine w number from to (Query cid) (query-fine P (w.front cid.client).open_call) h x
   line-fine A x w (Send number from to (Done cid spot)) came other h = sent-fine w number from to (Done cid spot) tt h x
   line-fine A x w (Send number from to (Answer cid text)) came other h = sent-fine w number from to (Answer cid text) tt h x
   line-fine A x w (Send number from to Gossip) came other h = sent-fine w number from to Gossip tt h x
-  line-fine A None w (Accept spot cid) came other h = h
-  line-fine A (Some x) w (Accept spot cid) came other h = accept-fine w spot x.to x.what came h
-  line-fine A None w (Hold cid) came other h = h
-  line-fine A (Some x) w (Hold cid) came other h = hold-fine w x.to x.what h
-  line-fine A None w (Take count) came other h = h
-  line-fine A (Some x) w (Take count) came other h = take-fine w x.to x.what h
-  line-fine A None w (Got cid) came other h = h
-  line-fine A (Some x) w (Got cid) came other h = got-fine w x.to x.what h
+  line-fine A x w (Accept spot cid) came other h = came-read w (accept_read w spot) (accept-fine w spot) x.came came h
+  line-fine A x w (Hold cid) came other h = came-read w (hold_read w) (λ to what fine k. hold-fine w to what k) x.came came h
+  line-fine A x w (Take count) came other h = came-read w (take_read w) (λ to what fine k. take-fine w to what k) x.came came h
+  line-fine A x w (Got cid) came other h = came-read w (got_read w) (λ to what fine k. got-fine w to what k) x.came came h
   line-fine A x w (Stale cid) came other h = h
   line-fine A x w (NoMessage message) came other h = h
   line-fine A x w (Refuse why) came other h = h
   line-fine A x w (State line) came other h = h
 
-  lines-fine : (A : List ℕ → Type 0) (x : Option (SentMessage Op)) (w : Facts Op) (lines : List Outcome) → CameFine x → Each (IsOther A) lines → Holds w → Holds (lines_read x w lines)
+  lines-fine : (A : List ℕ → Type 0) (x : Handling Op) (w : Facts Op) (lines : List Outcome) → CameFine P x.came → Each (IsOther A) lines → Holds P w → Holds P (lines_read m config x w lines)
   lines-fine A x w [] came other h = h
-  lines-fine A x w (line ∷ lines) came other h = lines-fine A x (line_read x w line) lines came other.1 (line-fine A x w line came other.0 h)
+  lines-fine A x w (line ∷ lines) came other h = lines-fine A x (line_read m config x w line) lines came other.1 (line-fine A x w line came other.0 h)
 
 -- ---- what is printed
 
@@ -219,11 +223,11 @@ module _ {Value Op : Type 0} (m : Meaning Value Op) (P : Op → Type 0) where
   CallsFine (Show replica) = Unit {0}
 
   -- a call is sent as an update's only where its operation is one
-  call-fine : (w : Facts Op) (client replica reading clock : ℕ) (op : Op) (o : Option (LabelledCall Op)) (worn : Bool) → (IsUpdate (m.kind op) → P op) → Holds P w
-      → Holds P (lines_read None (record w { front = put_at client (call_read client reading op (w.front client) o worn) w.front }) (call_lines m w client replica clock op o worn))
-  call-fine w client replica reading clock op (Some call) worn fine h = record { accepted = h.accepted; messages = h.messages }
-  call-fine w client replica reading clock op None true fine h = record { accepted = h.accepted; messages = h.messages }
-  call-fine w client replica reading clock op None false fine h = record { accepted = h.accepted; messages = (copy (is_query (m.kind op)) refl, h.messages) }
+  call-fine : (config : Config) (w : Facts Op) (client replica reading clock : ℕ) (op : Op) (o : Option (LabelledCall Op)) (worn : Bool) → (IsUpdate (m.kind op) → P op) → Holds P w
+      → Holds P (lines_read m config (alone (Some (Client client))) (record w { front = put_at client (call_read client reading op (w.front client) o worn) w.front }) (call_lines m w client replica clock op o worn))
+  call-fine config w client replica reading clock op (Some call) worn fine h = record { accepted = h.accepted; messages = h.messages }
+  call-fine config w client replica reading clock op None true fine h = record { accepted = h.accepted; messages = h.messages }
+  call-fine config w client replica reading clock op None false fine h = record { accepted = h.accepted; messages = (copy (is_query (m.kind op)) refl, h.messages) }
     where
       copy : (t : Bool) → is_query (m.kind op) ≡ t
           → IsFine P (carried (record w { front = put_at client (call_read client reading op (w.front client) None false) w.front }) (Client client) (cond t (Query (next_call client (w.front client) op).cid) (Update (next_call client (w.front client) op).cid clock)))
@@ -238,35 +242,35 @@ module _ {Value Op : Type 0} (m : Meaning Value Op) (P : Op → Type 0) where
   came-fine w (Show replica) h = tt
 
   -- P holds on after the lines of the event itself
-  pub own-fine : (config : Config) (w : Facts Op) (event : Event Op) → CallsFine event → Holds P w → Holds P (lines_read (delivery_of w event) (event_read w event) (own_lines m config w event))
-  own-fine config w (Call client replica reading op) fine h = call-fine w client replica reading _ op (w.front client).open_call ((w.front client).calls == 2 ^ 62) fine h
+  pub own-fine : (config : Config) (w : Facts Op) (event : Event Op) → CallsFine event → Holds P w → Holds P (lines_read m config (handling w event) (event_read w event) (own_lines m config w event))
+  own-fine config w (Call client replica reading op) fine h = call-fine config w client replica reading _ op (w.front client).open_call ((w.front client).calls == 2 ^ 62) fine h
   own-fine config w (Deliver message) fine h =
-      lines-fine P IsAny (delivery_of w (Deliver message)) w (own_lines m config w (Deliver message)) (came-fine w (Deliver message) h)
+      lines-fine m config P IsAny (handling w (Deliver message)) w (own_lines m config w (Deliver message)) (came-fine w (Deliver message) h)
       (delivery-other m IsAny config w (λ i op. tt) message (delivery_of w (Deliver message))) h
-  own-fine config w (GossipEvent from to) fine h = lines-fine P IsAny None w (own_lines m config w (GossipEvent from to)) tt (tt, tt) h
-  own-fine config w (Show replica) fine h = lines-fine P IsAny None w (own_lines m config w (Show replica)) tt (tt, tt) h
+  own-fine config w (GossipEvent from to) fine h = lines-fine m config P IsAny (handling w (GossipEvent from to)) w (own_lines m config w (GossipEvent from to)) tt (tt, tt) h
+  own-fine config w (Show replica) fine h = lines-fine m config P IsAny (handling w (Show replica)) w (own_lines m config w (Show replica)) tt (tt, tt) h
 
   -- after all lines of the event
-  event-fine : (config : Config) (w : Facts Op) (event : Event Op) → CallsFine event → Holds P w → Holds P (lines_read (delivery_of w event) (event_read w event) (outcomes_of m config w event))
+  event-fine : (config : Config) (w : Facts Op) (event : Event Op) → CallsFine event → Holds P w → Holds P (lines_read m config (handling w event) (event_read w event) (outcomes_of m config w event))
   event-fine config w event fine h =
       let own = own_lines m config w event in
-      let mid = lines_read (delivery_of w event) (event_read w event) own in
+      let mid = lines_read m config (handling w event) (event_read w event) own in
       let last = answers_at m mid (stepping w event) in
-      subst (λ (v : Facts Op). Holds P v) (sym (lines_read-append (delivery_of w event) (event_read w event) own last))
-      (lines-fine P IsAny (delivery_of w event) mid last (came-fine w event h) (answers_at-other m IsAny mid (λ i op. tt) (stepping w event)) (own-fine config w event fine h))
+      subst (λ (v : Facts Op). Holds P v) (sym (lines_read-append m config (handling w event) (event_read w event) own last))
+      (lines-fine m config P IsAny (handling w event) mid last (came-fine w event h) (answers_at-other m IsAny mid (λ i op. tt) (stepping w event)) (own-fine config w event fine h))
 
-  ended-fine : (o : Option ℕ) (w : Facts Op) → Holds P w → Holds P (step_ended o w)
-  ended-fine None w h = h
-  ended-fine (Some i) w h = record { accepted = h.accepted; messages = h.messages }
+  ended-fine : (config : Config) (o : Option ℕ) (w : Facts Op) → Holds P w → Holds P (step_ended m config o w)
+  ended-fine config None w h = h
+  ended-fine config (Some i) w h = record { accepted = h.accepted; messages = h.messages }
 
   -- and after the whole step
-  pub step-fine : (config : Config) (w : Facts Op) (step : Step Op) → CallsFine step.event → step.outcomes ≡ outcomes_of m config w step.event → Holds P w → Holds P (after w step)
+  pub step-fine : (config : Config) (w : Facts Op) (step : Step Op) → CallsFine step.event → step.outcomes ≡ outcomes_of m config w step.event → Holds P w → Holds P (after m config w step)
   step-fine config w step fine legal h =
-      ended-fine (stepping w step.event) _ (subst (λ (lines : List Outcome). Holds P (lines_read (delivery_of w step.event) (event_read w step.event) lines)) (sym legal) (event-fine config w step.event fine h))
+      ended-fine config (stepping w step.event) _ (subst (λ (lines : List Outcome). Holds P (lines_read m config (handling w step.event) (event_read w step.event) lines)) (sym legal) (event-fine config w step.event fine h))
 
-  legal-fine : (config : Config) (w : Facts Op) (steps : List (Step Op)) → Each (λ step. CallsFine step.event) steps → LegalFrom m config w steps → Holds P w → Holds P (facts_after w steps)
+  legal-fine : (config : Config) (w : Facts Op) (steps : List (Step Op)) → Each (λ step. CallsFine step.event) steps → LegalFrom m config w steps → Holds P w → Holds P (facts_after m config w steps)
   legal-fine config w [] fine legal h = h
-  legal-fine config w (step ∷ steps) fine legal h = legal-fine config (after w step) steps fine.1 legal.1 (step-fine config w step fine.0 legal.0 h)
+  legal-fine config w (step ∷ steps) fine legal h = legal-fine config (after m config w step) steps fine.1 legal.1 (step-fine config w step fine.0 legal.0 h)
 
 -- ---- accepted updates
 
@@ -283,7 +287,7 @@ module _ {Value Op : Type 0} (m : Meaning Value Op) where
   each-told kind_of kinds (a ∷ accepted) each = (ap is_query (sym (kinds a.op)) ∙ each.0, each-told kind_of kinds accepted each.1)
 
   -- what is told to be accepted after a legal history are updates
-  pub told-updates : (kind_of : Op → Kind) → ((op : Op) → m.kind op ≡ kind_of op) → (config : Config) (steps : List (Step Op)) (g : Gathered Op) → IsLegal m config steps → told g ≡ bare (facts_after first_facts steps) → Each (λ a. IsUpdate (kind_of a.op)) g.accepted
+  pub told-updates : (kind_of : Op → Kind) → ((op : Op) → m.kind op ≡ kind_of op) → (config : Config) (steps : List (Step Op)) (g : Gathered Op) → IsLegal m config steps → told g ≡ bare (facts_after m config first_facts steps) → Each (λ a. IsUpdate (kind_of a.op)) g.accepted
   told-updates kind_of kinds config steps g legal is =
       each-told kind_of kinds g.accepted
       (subst (λ (accepted : List (Acceptance Op)). Each (λ a. IsUpdate (m.kind a.op)) accepted) (sym (ap (λ (w : Facts Op). w.accepted) is))

@@ -20,11 +20,11 @@ use Rattle.lr_graph.proofs.Sets.ReadySets.{below-accepted, holds-ready, ready-cl
 pub ready-causes : {Value Op : Type 0} (m : Meaning Value Op) (kind_of : Op → Kind) (lawful : Lawful m kind_of)
     (config : Config) (steps : List (Step Op)) → Each (λ step. IsEventOf m config step.event) steps
     → IsLegal m config steps
-    → (i : ℕ) (a : Acceptance Op) → IsAmong a (facts_of steps).accepted
-    → ready (facts_of steps).accepted ((facts_of steps).received i) a.spot ≡ true
-    → a.below ⊆ ready (facts_of steps).accepted ((facts_of steps).received i)
+    → (i : ℕ) (a : Acceptance Op) → IsAmong a (facts_of m config steps).accepted
+    → ready (facts_of m config steps).accepted ((facts_of m config steps).received i) a.spot ≡ true
+    → a.below ⊆ ready (facts_of m config steps).accepted ((facts_of m config steps).received i)
 ready-causes m kind_of lawful config steps fits legal i a member here s below =
-    let w = facts_of steps in
+    let w = facts_of m config steps in
     let sound = (legal-same m kind_of lawful config steps fits legal).shared.sound in
     let b = below-accepted w.accepted sound a member s below in
     ap (ready w.accepted (w.received i)) (sym b.2)

@@ -4,13 +4,12 @@ use Rattle.std.proofs.Common.{length}
 use Rattle.std.proofs.Common.{Option, Some, None, refl, sym, ap, ◌∙◌, subst, arith, eq-eqb, eqb-true}
 use Rattle.std.proofs.lemmas.List.{append_assoc}
 use Rattle.lr_base.specs.Orders.{IsAmong}
-use Rattle.lr_base.specs.declared.events.Outcome.TheVariants.{Send}
 use Rattle.lr_base.specs.declared.events.Sent.{Sent}
 use Rattle.lr_base.specs.declared.names.Actor.{Actor}
 use Rattle.lr_base.specs.declared.names.Actor.TheVariants.{Replica}
 use Rattle.lr_base.specs.declared.names.Cid.{Cid}
 use Rattle.lr_base.specs.declared.names.Spot.{Spot}
-use Rattle.lr_graph.specs.After.{accepts, carried, causes_of, copy_of, line_read, take_read}
+use Rattle.lr_graph.specs.After.{accepts, carried, causes_of, copy_of, take_read}
 use Rattle.lr_graph.specs.Closed.{Each}
 use Rattle.lr_graph.specs.Graph.{Acceptance, Carried, Facts, FrontFacts, Kept, LabelledCall, SentMessage}
 use Rattle.lr_graph.specs.Graph.{UpdateCopy, QueryCopy, DoneReply, AnswerReply, GossipOf, Blank}
@@ -193,12 +192,18 @@ module _ {Op : Type 0} (R : Rule) where
     pub keeps : Keeps next
     pub others : (j : ℕ) → (at ≡ Some j → ⊥) → (next.received j ≡ w.received j) × (next.held j ≡ w.held j)
 
+  -- a message is sent
+  abbrev pub posts : Facts Op → Actor → Actor → Sent → Facts Op
+  posts w from to what = record w {
+    messages = record { number = next_number w; from = from; to = to; what = carried w from what } ∷ w.messages;
+  }
+
   module _ (at : Option ℕ) (w : Facts Op) (h : Keeps w) where
     pub next-same : IsNext at w w
     next-same = record { later = later-self w; keeps = h; others = λ j apart. (refl, refl) }
 
     pub next-sent : (from to : Actor) (what : Sent) → IsFine (R.of (calls_in w)) w.accepted (carried w from what)
-        → IsNext at w (line_read None w (Send (next_number w) from to what))
+        → IsNext at w (posts w from to what)
     next-sent from to what fine = record {
       later = later-by ([], refl) (_ ∷ [], refl) (λ i s e. e) (λ j s e. e) (λ j. omega arith);
       keeps = holds-by h.accepted (fine, h.messages)

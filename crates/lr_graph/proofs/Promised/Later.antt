@@ -69,11 +69,11 @@ module _ {Value Op : Type 0} (m : Meaning Value Op) (kind_of : Op → Kind) (law
   -- in a legal history, what a step does that takes a reply
   takes-taken : (before later : List (Step Op)) (step : Step Op) → IsLegal m config (before ++ step ∷ later)
       → (client : ℕ) (cid : Cid) (names : SpotSet) (reply : Carried Op) → IsReply cid names reply
-      → (takes : Takes before step client cid reply)
-      → HasTaken m config (facts_of before) step client cid names takes.message
+      → (takes : Takes m config before step client cid reply)
+      → HasTaken m config (facts_of m config before) step client cid names takes.message
   takes-taken before later step legal client cid names reply is takes =
       let parts = legal-parts m config before (step ∷ later) first_facts legal in
-      reply-taken m config (facts_of before) step parts.1.0 client cid cid names takes.message
+      reply-taken m config (facts_of m config before) step parts.1.0 client cid cid names takes.message
       (subst (IsReply cid names) (sym takes.what) is) takes.comes takes.to takes.got
 
   -- a client was told this after so many calls
@@ -86,34 +86,34 @@ module _ {Value Op : Type 0} (m : Meaning Value Op) (kind_of : Op → Kind) (law
   -- behind a reply that a client took it was told what this stands for
   told-at : (before between : List (Step Op)) (one : Step Op) → Fits m config (before ++ one ∷ between)
       → IsLegal m config (before ++ one ∷ between) → (client : ℕ) (cid : Cid) (names : SpotSet) (reply : Carried Op)
-      → IsReply cid names reply → Takes before one client cid reply
-      → KnowsAt client names (facts_of (before ++ one ∷ between))
+      → IsReply cid names reply → Takes m config before one client cid reply
+      → KnowsAt client names (facts_of m config (before ++ one ∷ between))
   told-at before between one fits legal client cid names reply is takes =
       let fit = each-parts _ before (one ∷ between) fits in
       let parts = legal-parts m config before (one ∷ between) first_facts legal in
-      let w = facts_of before in
+      let w = facts_of m config before in
       let at = any-point m kind_of lawful config before fit.0 parts.0 in
       let took = takes-taken before between one legal client cid names reply is takes in
       let told = taken-told m kind_of lawful config w at.0 at.1 one fit.1.0 parts.1.0 client cid names takes.message
       (subst (IsReply cid names) (sym takes.what) is) took in
-      let now = told-later m config client (calls_in (after w one) client) names kind_of lawful between (after w one)
+      let now = told-later m config client (calls_in (after m config w one) client) names kind_of lawful between (after m config w one)
       (stepped m at.0 one.event).run told.0 told.1 fit.1.1 parts.1.1 in
-      let same : facts_of (before ++ one ∷ between) ≡ facts_after (after w one) between =
-      facts-parts before (one ∷ between) first_facts in
+      let same : facts_of m config (before ++ one ∷ between) ≡ facts_after m config (after m config w one) between =
+      facts-parts m config before (one ∷ between) first_facts in
       subst (KnowsAt client names) (sym same)
-      (record { k = calls_in (after w one) client; run = now.0; point = now.1; told = now.2 })
+      (record { k = calls_in (after m config w one) client; run = now.0; point = now.1; told = now.2 })
 
   -- a reply that a client took, and a later step, in a legal history
   module _ (before between later : List (Step Op)) (one other : Step Op)
       (fits : Fits m config (before ++ one ∷ between ++ other ∷ later))
       (legal : IsLegal m config (before ++ one ∷ between ++ other ∷ later))
       (client : ℕ) (first second : Cid) (names : SpotSet) (reply : Carried Op) (is : IsReply first names reply)
-      (took : Takes before one client first reply) where
+      (took : Takes m config before one client first reply) where
     abbrev start : List (Step Op)
     start = before ++ one ∷ between
 
     abbrev w : Facts Op
-    w = facts_of start
+    w = facts_of m config start
 
     first_fits : Fits m config start × Fits m config (other ∷ later)
     first_fits = each-parts _ start (other ∷ later) fits
@@ -125,7 +125,7 @@ module _ {Value Op : Type 0} (m : Meaning Value Op) (kind_of : Op → Kind) (law
     knows = told-at before between one first_fits.0 first_legal client first names reply is took
 
     -- a later answer was read after what the client was told
-    pub told-answer : (seen : SpotSet) → Takes start other client second (AnswerReply second seen) → names ⊆ seen
+    pub told-answer : (seen : SpotSet) → Takes m config start other client second (AnswerReply second seen) → names ⊆ seen
     told-answer seen takes =
         let got = takes-taken start later other legal client second seen (AnswerReply second seen) (refl, refl) takes in
         let call = got.taken.call in
@@ -140,7 +140,7 @@ module _ {Value Op : Type 0} (m : Meaning Value Op) (kind_of : Op → Kind) (law
 
     -- what is accepted of a later update has what the client was told below it
     pub told-update : CallsUpdate other client second → (a : Acceptance Op)
-        → IsAmong a (facts_of (before ++ one ∷ between ++ other ∷ later)).accepted → a.cid ≡ second → names ⊆ a.below
+        → IsAmong a (facts_of m config (before ++ one ∷ between ++ other ∷ later)).accepted → a.cid ≡ second → names ⊆ a.below
     told-update calls a member of =
         let parts = legal-parts m config start (other ∷ later) first_facts legal in
         let last = told-later m config client knows.k names kind_of lawful (other ∷ later) w knows.run knows.point
@@ -148,16 +148,16 @@ module _ {Value Op : Type 0} (m : Meaning Value Op) (kind_of : Op → Kind) (law
         let named = of ∙ call-named m w client calls.replica _ calls.op _ _ calls.number calls.time _ _ second
         (subst (IsAmong _) (parts.1.0 ∙ ap (outcomes_of m config w) calls.event) calls.sent) in
         let among = subst (λ (v : Facts Op). IsAmong a v.accepted)
-        (facts-parts start (other ∷ later) first_facts) member in
+        (facts-parts m config start (other ∷ later) first_facts) member in
         let past = ap (λ (cid : Cid). cid.seq) named in
         let most = knows.told.calls in
         each-at _ a _ last.2.keeps.accepted among (ap (λ (cid : Cid). cid.client) named) (omega arith)
 
     -- the update that was done is in each set that has what the reply stands for
     pub done-there : (set : SpotSet) → reply ≡ DoneReply first names → names ⊆ set
-        → HasDoneUpdate (facts_of before).accepted first names set
+        → HasDoneUpdate (facts_of m config before).accepted first names set
     done-there set is_done within =
-        let u = facts_of before in
+        let u = facts_of m config before in
         let fit = each-parts _ before (one ∷ between) first_fits.0 in
         let parts = legal-parts m config before (one ∷ between) first_facts first_legal in
         let at = any-point m kind_of lawful config before fit.0 parts.0 in

@@ -46,10 +46,11 @@ set-later {Op} l (a ∷ new) x sound set =
 
 -- ---- histories in parts
 
-pub facts-parts : {Op : Type 0} (steps more : List (Step Op)) (w : Facts Op)
-    → facts_after w (steps ++ more) ≡ facts_after (facts_after w steps) more
-facts-parts [] more w = refl
-facts-parts (step ∷ steps) more w = facts-parts steps more (after w step)
+pub facts-parts : {Value Op : Type 0} (m : Meaning Value Op) (config : Config) (steps more : List (Step Op))
+    (w : Facts Op)
+    → facts_after m config w (steps ++ more) ≡ facts_after m config (facts_after m config w steps) more
+facts-parts m config [] more w = refl
+facts-parts m config (step ∷ steps) more w = facts-parts m config steps more (after m config w step)
 
 pub each-parts : {A : Type 0} (P : A → Type 0) (xs ys : List A) → Each P (xs ++ ys) → Each P xs × Each P ys
 each-parts P [] ys all = (tt, all)
@@ -57,10 +58,10 @@ each-parts P (x ∷ xs) ys all = let rest = each-parts P xs ys all.1 in ((all.0,
 
 pub legal-parts : {Value Op : Type 0} (m : Meaning Value Op) (config : Config) (steps more : List (Step Op))
     (w : Facts Op) → LegalFrom m config w (steps ++ more)
-    → LegalFrom m config w steps × LegalFrom m config (facts_after w steps) more
+    → LegalFrom m config w steps × LegalFrom m config (facts_after m config w steps) more
 legal-parts m config [] more w legal = (tt, legal)
 legal-parts m config (step ∷ steps) more w legal =
-    let rest = legal-parts m config steps more (after w step) legal.1 in
+    let rest = legal-parts m config steps more (after m config w step) legal.1 in
     ((legal.0, rest.0), rest.1)
 
 -- ---- points
@@ -97,10 +98,10 @@ module _ {Value Op : Type 0} (m : Meaning Value Op) (kind_of : Op → Kind) (law
 
   pub step-point : (w : Facts Op) (v : RunState Value Op) → Point w v → (step : Step Op)
       → IsEventOf m config step.event → step.outcomes ≡ outcomes_of m config w step.event
-      → Point (after w step) (stepped m v step.event).run × IsNext fresh (stepping w step.event) w (after w step)
+      → Point (after m config w step) (stepped m v step.event).run × IsNext fresh (stepping w step.event) w (after m config w step)
   step-point w v p step fits legal =
       let run = (stepped m v step.event).run in
-      let ended = λ (lines : List Outcome). after w (record { event = step.event; outcomes = lines }) in
+      let ended = λ (lines : List Outcome). after m config w (record { event = step.event; outcomes = lines }) in
       let same = subst (λ lines. IsSame m config (ended lines) run) (sym legal)
       (same-step m kind_of lawful config w v p.same step.event fits).same in
       let next = step-next m config fresh w v p.keeps p.same (λ n cid x r f e. f)
@@ -110,15 +111,15 @@ module _ {Value Op : Type 0} (m : Meaning Value Op) (kind_of : Op → Kind) (law
   -- a later point of a legal history
   pub later-point : (steps : List (Step Op)) (w : Facts Op) (v : RunState Value Op) → Point w v → Fits m config steps
       → LegalFrom m config w steps
-      → (u : RunState Value Op) × Point (facts_after w steps) u × IsLater w (facts_after w steps)
+      → (u : RunState Value Op) × Point (facts_after m config w steps) u × IsLater w (facts_after m config w steps)
   later-point [] w v p fits legal = (v, p, later-self w)
   later-point (step ∷ steps) w v p fits legal =
       let one = step-point w v p step fits.0 legal.0 in
-      let rest = later-point steps (after w step) (stepped m v step.event).run one.0 fits.1 legal.1 in
-      (rest.0, rest.1, later-more w (after w step) (facts_after (after w step) steps) one.1.later rest.2)
+      let rest = later-point steps (after m config w step) (stepped m v step.event).run one.0 fits.1 legal.1 in
+      (rest.0, rest.1, later-more w (after m config w step) (facts_after m config (after m config w step) steps) one.1.later rest.2)
 
   pub any-point : (steps : List (Step Op)) → Fits m config steps → IsLegal m config steps
-      → (u : RunState Value Op) × Point (facts_of steps) u
+      → (u : RunState Value Op) × Point (facts_of m config steps) u
   any-point steps fits legal =
       let p = later-point steps first_facts (first_run m config) first-point fits legal in
       (p.0, p.1)

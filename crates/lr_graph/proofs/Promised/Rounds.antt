@@ -16,7 +16,7 @@ use Rattle.lr_base.specs.declared.lr_service.Kind.{Kind}
 use Rattle.lr_base.specs.declared.names.Actor.{Actor}
 use Rattle.lr_base.specs.declared.names.Actor.TheVariants.{Replica}
 use Rattle.lr_base.specs.declared.names.Config.{Config}
-use Rattle.lr_graph.specs.After.{after, lines_read, receiving, stepping}
+use Rattle.lr_graph.specs.After.{after, lines_read, stepping}
 use Rattle.lr_graph.specs.Central.{facts_after}
 use Rattle.lr_graph.specs.Closed.{Each}
 use Rattle.lr_graph.specs.Graph.{Acceptance, Facts, GossipOf, LabelledCall, SentMessage, first_facts, is_within}
@@ -32,6 +32,7 @@ use Rattle.lr_graph.proofs.Promised.Points.{legal-parts, step-point}
 use Rattle.lr_graph.proofs.Promised.Walk.{after-ended, own_read}
 use Rattle.lr_graph.proofs.Replicas.Stepping.{put-same}
 use Rattle.lr_graph.proofs.Sets.ReadySets.{holds-within}
+use Rattle.lr_graph.proofs.Handled.{receiving, came_in}
 
 and-false : (a : Bool) → (a && false) ≡ false
 and-false true = refl
@@ -85,7 +86,7 @@ module _ {Value Op : Type 0} (m : Meaning Value Op) (config : Config) where
 
   module _ (w : Facts Op) (step : Step Op) (legal : step.outcomes ≡ outcomes_of m config w step.event) where
     -- a replica's step answers what need not wait
-    waits-ended : (i : ℕ) → stepping w step.event ≡ Some i → Waits (after w step) i
+    waits-ended : (i : ℕ) → stepping w step.event ≡ Some i → Waits (after m config w step) i
     waits-ended i at =
         let last = after-ended m config w step legal i at in
         let mid = own_read m config w step.event in
@@ -113,7 +114,7 @@ module _ {Value Op : Type 0} (m : Meaning Value Op) (config : Config) where
 
       -- what the sender received stands in a message
       gossip-sent : step.event ≡ GossipEvent from to
-          → Extends (after w step).messages (gossip_in w from to ∷ w.messages)
+          → Extends (after m config w step).messages (gossip_in w from to ∷ w.messages)
       gossip-sent event =
           let last = after-ended m config w step legal from (ap (stepping w) event) in
           let own = λ (event : Event Op). (own_read m config w event).messages in
@@ -122,12 +123,12 @@ module _ {Value Op : Type 0} (m : Meaning Value Op) (config : Config) where
       -- who takes it received that too
       gossip-taken : (sender : Facts Op) (number : ℕ) → step.event ≡ Deliver number
           → find (λ y. y.number == number) w.messages ≡ Some (gossip_in sender from to)
-          → (after w step).received to ≡ (w.received to ∪ sender.received from)
+          → (after m config w step).received to ≡ (w.received to ∪ sender.received from)
       gossip-taken sender number event found =
           let last = after-ended m config w step legal to (ap (stepping w) event ∙ ap receiving found) in
           ap (λ (u : Facts Op). u.received to) last.1
           ∙ ap (λ (event : Event Op). (own_read m config w event).received to) event
-          ∙ ap (λ o. (lines_read o w (delivery_lines m config w number o)).received to) found
+          ∙ ap (λ o. (lines_read m config (came_in o) w (delivery_lines m config w number o)).received to) found
           ∙ put-same to (w.received to ∪ sender.received from) w.received
 
 -- ---- histories
@@ -136,16 +137,16 @@ module _ {Value Op : Type 0} (m : Meaning Value Op) (kind_of : Op → Kind) (law
     (config : Config) where
   waits-step : (w : Facts Op) (v : RunState Value Op) → IsPoint m config w v → (step : Step Op)
       → IsEventOf m config step.event → step.outcomes ≡ outcomes_of m config w step.event
-      → ((i : ℕ) → Waits w i) → (i : ℕ) → Waits (after w step) i
+      → ((i : ℕ) → Waits w i) → (i : ℕ) → Waits (after m config w step) i
   waits-step w v p step fits legal waits j = by_actor (stepping w step.event) refl
     where
-      elsewhere : (stepping w step.event ≡ Some j → ⊥) → Waits (after w step) j
+      elsewhere : (stepping w step.event ≡ Some j → ⊥) → Waits (after m config w step) j
       elsewhere apart =
           let next = (step-point m kind_of lawful config w v p step fits legal).1 in
           let stays = λ (c : LabelledCall Op) (e : is_within w.accepted c.label (w.received j) ≡ false).
-          waits-more w.accepted (after w step).accepted next.later.accepted c.label _
+          waits-more w.accepted (after m config w step).accepted next.later.accepted c.label _
           (ap (is_within w.accepted c.label) (next.others j apart).0 ∙ e) in
-          subst (λ cs. Each (λ c. is_within (after w step).accepted c.label ((after w step).received j) ≡ false) cs)
+          subst (λ cs. Each (λ c. is_within (after m config w step).accepted c.label ((after m config w step).received j) ≡ false) cs)
           (sym (next.others j apart).1) (each-map _ _ (w.held j) stays (waits j))
 
       none_some : (i : ℕ) → ◌≡◌ {A = Option ℕ} None (Some i) → ⊥
@@ -154,20 +155,20 @@ module _ {Value Op : Type 0} (m : Meaning Value Op) (kind_of : Op → Kind) (law
       some_is : (i k : ℕ) → Some i ≡ Some k → i ≡ k
       some_is i k e = cc
 
-      by_actor : (o : Option ℕ) → stepping w step.event ≡ o → Waits (after w step) j
+      by_actor : (o : Option ℕ) → stepping w step.event ≡ o → Waits (after m config w step) j
       by_actor None at = elsewhere (λ e. none_some j (sym at ∙ e))
       by_actor (Some i) at = by_place (equal-or-not j i)
         where
-          by_place : (j ≡ i) ⊎ (j ≢ i) → Waits (after w step) j
-          by_place (inl is) = subst (Waits (after w step)) (sym is) (waits-ended m config w step legal i at)
+          by_place : (j ≡ i) ⊎ (j ≢ i) → Waits (after m config w step) j
+          by_place (inl is) = subst (Waits (after m config w step)) (sym is) (waits-ended m config w step legal i at)
           by_place (inr apart) = elsewhere (λ e. apart (some_is j i (sym e ∙ at)))
 
   waits-later : (steps : List (Step Op)) (w : Facts Op) (v : RunState Value Op) → IsPoint m config w v
       → Fits m config steps → LegalFrom m config w steps → ((i : ℕ) → Waits w i) → (i : ℕ)
-      → Waits (facts_after w steps) i
+      → Waits (facts_after m config w steps) i
   waits-later [] w v p fits legal waits = waits
   waits-later (step ∷ steps) w v p fits legal waits =
-      waits-later steps (after w step) (stepped m v step.event).run
+      waits-later steps (after m config w step) (stepped m v step.event).run
       (step-point m kind_of lawful config w v p step fits.0 legal.0).0 fits.1 legal.1
       (waits-step w v p step fits.0 legal.0 waits)
 
@@ -181,42 +182,42 @@ module _ {Value Op : Type 0} (m : Meaning Value Op) (kind_of : Op → Kind) (law
         → sending.event ≡ GossipEvent from to
         → IsAmong (Send number (Replica from) (Replica to) Gossip) sending.outcomes
         → delivering.event ≡ Deliver number
-        → w.received from ⊆ (facts_after w (first ++ sending ∷ between ++ delivering ∷ last)).received to
+        → w.received from ⊆ (facts_after m config w (first ++ sending ∷ between ++ delivering ∷ last)).received to
     spreads first between last sending delivering fits legal from to number event sent delivered s here =
         let start : List (Step Op) = first ++ sending ∷ between in
         let fits1 = each-parts _ start (delivering ∷ last) fits in
         let fits0 = each-parts _ first (sending ∷ between) fits1.0 in
         let legal1 = legal-parts m config start (delivering ∷ last) w legal in
         let legal0 = legal-parts m config first (sending ∷ between) w legal1.0 in
-        let w1 = facts_after w first in
+        let w1 = facts_after m config w first in
         let a = later-point m kind_of lawful config first w v p fits0.0 legal0.0 in
         let b = step-point m kind_of lawful config w1 a.0 a.1 sending fits0.1.0 legal0.1.0 in
-        let c = later-point m kind_of lawful config between (after w1 sending) (stepped m a.0 sending.event).run b.0
+        let c = later-point m kind_of lawful config between (after m config w1 sending) (stepped m a.0 sending.event).run b.0
         fits0.1.1 legal0.1.1 in
-        let w3 = facts_after (after w1 sending) between in
-        let same : facts_after w start ≡ w3 = facts-parts first (sending ∷ between) w in
+        let w3 = facts_after m config (after m config w1 sending) between in
+        let same : facts_after m config w start ≡ w3 = facts-parts m config first (sending ∷ between) w in
         let legal3 = subst (λ (u : Facts Op). LegalFrom m config u (delivering ∷ last)) same legal1.1 in
         let d = step-point m kind_of lawful config w3 c.0 c.1 delivering fits1.1.0 legal3.0 in
-        let e = later-point m kind_of lawful config last (after w3 delivering) (stepped m c.0 delivering.event).run d.0
+        let e = later-point m kind_of lawful config last (after m config w3 delivering) (stepped m c.0 delivering.event).run d.0
         fits1.1.1 legal3.1 in
         let sends = gossip-sent m config w1 sending legal0.1.0 from to event in
         let x = gossip_in w1 from to in
-        let messages = extends-more (x ∷ w1.messages) (after w1 sending).messages w3.messages sends c.2.messages in
+        let messages = extends-more (x ∷ w1.messages) (after m config w1 sending).messages w3.messages sends c.2.messages in
         let named = gossip-number m config w1 sending legal0.1.0 from to number event sent in
         let found = ap (λ n. find (λ (y : SentMessage Op). y.number == n) w3.messages) named
         ∙ ap (find (λ (y : SentMessage Op). y.number == next_number w1)) messages.1
         ∙ found-among x _ (subst IsNumbered messages.1 c.1.keeps.numbered)
         (among-right x messages.0 (x ∷ w1.messages) (inl refl)) in
         let taken = gossip-taken m config w3 delivering legal3.0 from to w1 number delivered found in
-        let end : facts_after w (start ++ delivering ∷ last) ≡ facts_after (after w3 delivering) last =
-        facts-parts start (delivering ∷ last) w ∙ ap (λ (u : Facts Op). facts_after u (delivering ∷ last)) same in
+        let end : facts_after m config w (start ++ delivering ∷ last) ≡ facts_after m config (after m config w3 delivering) last =
+        facts-parts m config start (delivering ∷ last) w ∙ ap (λ (u : Facts Op). facts_after m config u (delivering ∷ last)) same in
         ap (λ (u : Facts Op). u.received to s) end
         ∙ e.2.received to s (ap (λ (r : SpotSet). r s) taken ∙ or-right _ _ (a.2.received from s here))
 
     gossip-spreads : (steps : List (Step Op)) → Fits m config steps → LegalFrom m config w steps → (from to : ℕ)
-        → HasGossiped steps from to → w.received from ⊆ (facts_after w steps).received to
+        → HasGossiped steps from to → w.received from ⊆ (facts_after m config w steps).received to
     gossip-spreads steps fits legal from to g s here =
-        ap (λ (steps : List (Step Op)). (facts_after w steps).received to s) g.steps_are
+        ap (λ (steps : List (Step Op)). (facts_after m config w steps).received to s) g.steps_are
         ∙ spreads g.first g.between g.last g.sending g.delivering (subst (Fits m config) g.steps_are fits)
         (subst (LegalFrom m config w) g.steps_are legal) from to g.number g.event g.sent g.delivered s here
 
@@ -224,23 +225,23 @@ module _ {Value Op : Type 0} (m : Meaning Value Op) (kind_of : Op → Kind) (law
 
   module _ (before round : List (Step Op)) (fits : Fits m config (before ++ round))
       (legal : IsLegal m config (before ++ round)) (whole : IsRound config round)
-      (quiet : (facts_of (before ++ round)).accepted ≡ (facts_of before).accepted) (i : ℕ)
+      (quiet : (facts_of m config (before ++ round)).accepted ≡ (facts_of m config before).accepted) (i : ℕ)
       (here : i < config.replicas) where
     abbrev last : Facts Op
-    last = facts_of (before ++ round)
+    last = facts_of m config (before ++ round)
 
     pub all-received : HasReceivedAll last i
     all-received =
         let fit = each-parts _ before round fits in
         let parts = legal-parts m config before round first_facts legal in
-        let w = facts_of before in
+        let w = facts_of m config before in
         let at = any-point m kind_of lawful config before fit.0 parts.0 in
         let now = later-point m kind_of lawful config round w at.0 at.1 fit.1 parts.1 in
         subst (λ (l : List (Acceptance Op)). Each (λ a. last.received i a.spot ≡ true) l) (sym quiet)
         (each-from _ w.accepted (λ a member.
         let own = at.1.same.shared.own a member in
         let place = (each-at _ a w.accepted at.1.same.shared.each member).place in
-        ap (λ (u : Facts Op). u.received i a.spot) (facts-parts before round first_facts)
+        ap (λ (u : Facts Op). u.received i a.spot) (facts-parts m config before round first_facts)
         ∙ (elim (equal-or-not i a.spot.place) [
           | inl is ↦ now.2.received i a.spot (ap (λ j. w.received j a.spot) is ∙ own)
           | inr apart ↦ gossip-spreads w at.0 at.1 round fit.1 parts.1 a.spot.place i

@@ -17,7 +17,7 @@ use Rattle.lr_base.specs.declared.names.Actor.{Actor}
 use Rattle.lr_base.specs.declared.names.Actor.TheVariants.{Client}
 use Rattle.lr_base.specs.declared.names.Cid.{Cid}
 use Rattle.lr_base.specs.declared.names.Config.{Config}
-use Rattle.lr_graph.specs.After.{after, delivery_of, got_read, lines_read, receiving, step_ended, takes_reply}
+use Rattle.lr_graph.specs.After.{after, delivery_of, got_read, lines_read, step_ended, takes_reply}
 use Rattle.lr_graph.specs.Central.{facts_after}
 use Rattle.lr_graph.specs.Closed.{IsSetOf, IsSound}
 use Rattle.lr_graph.specs.Graph.{Acceptance, Carried, Facts, FrontFacts, LabelledCall, SentMessage}
@@ -35,6 +35,7 @@ use Rattle.lr_graph.proofs.Related.Relation.{SameCarried, SameMessage, SameOptio
 use Rattle.lr_graph.proofs.Related.Relation.{same_answer, same_done, same_gossip, same_query, same_update}
 use Rattle.lr_graph.proofs.Replicas.Stepping.{put-same}
 use Rattle.lr_graph.proofs.Sets.ReadySets.{ready-greatest, within-holds}
+use Rattle.lr_graph.proofs.Handled.{receiving, came_in}
 
 -- ---- taking a reply
 
@@ -57,10 +58,10 @@ module _ {Value Op : Type 0} (m : Meaning Value Op) (config : Config) (w : Facts
   abbrev lines_by : ℕ → Option (SentMessage Op) → List Outcome
   lines_by n o =
       let own = delivery_lines m config w n o in
-      own ++ answers_at m (lines_read o w own) (receiving o)
+      own ++ answers_at m (lines_read m config (came_in o) w own) (receiving o)
 
   abbrev facts_by : ℕ → Option (SentMessage Op) → Facts Op
-  facts_by n o = step_ended (receiving o) (lines_read o w (lines_by n o))
+  facts_by n o = step_ended m config (receiving o) (lines_read m config (came_in o) w (lines_by n o))
 
   got_stale : (g cid : Cid) → Got g ≡ Stale cid → ⊥
   got_stale g cid e = cc
@@ -68,14 +69,14 @@ module _ {Value Op : Type 0} (m : Meaning Value Op) (config : Config) (w : Facts
   by_test : (client : ℕ) (cid : Cid) (names : SpotSet) (x : SentMessage Op)
       → got_read w x.to x.what ≡ takes_reply w client names → (o : Option (LabelledCall Op))
       → (w.front client).open_call ≡ o → (g : Cid) → IsAmong (Got g) (reply_line o cid ∷ [])
-      → IsTaken w client cid names (lines_read (Some x) w (reply_line o cid ∷ []))
+      → IsTaken w client cid names (lines_read m config (came_in (Some x)) w (reply_line o cid ∷ []))
   by_test client cid names x is None at g (inr none) = absurd none
   by_test client cid names x is None at g (inl e) = absurd (got_stale g cid e)
   by_test client cid names x is (Some call) at g (inr none) = absurd none
   by_test client cid names x is (Some call) at g (inl e) = go (same_cid call.cid cid) refl e
     where
       go : (t : Bool) → same_cid call.cid cid ≡ t → Got g ≡ cond t (Got cid) (Stale cid)
-          → IsTaken w client cid names (lines_read (Some x) w (cond t (Got cid) (Stale cid) ∷ []))
+          → IsTaken w client cid names (lines_read m config (came_in (Some x)) w (cond t (Got cid) (Stale cid) ∷ []))
       go true test e = record { call = call; opened = at; is = same_cid-is call.cid cid test; next_is = is }
       go false test e = absurd (got_stale g cid e)
 
@@ -102,7 +103,7 @@ module _ {Value Op : Type 0} (m : Meaning Value Op) (config : Config) (w : Facts
 
   -- a step takes a reply that was sent
   pub record HasTaken (step : Step Op) (client : ℕ) (cid : Cid) (names : SpotSet) (x : SentMessage Op) : Type 0 where
-    pub taken : IsTaken w client cid names (after w step)
+    pub taken : IsTaken w client cid names (after m config w step)
     pub among : IsAmong x w.messages
     pub number : ℕ
     pub found : find (λ y. y.number == number) w.messages ≡ Some x
@@ -123,9 +124,9 @@ module _ {Value Op : Type 0} (m : Meaning Value Op) (config : Config) (w : Facts
       by_event (Deliver n) at comes =
           let lines : step.outcomes ≡ lines_by n (Some x) =
           legal ∙ ap (outcomes_of m config w) at ∙ ap (lines_by n) comes in
-          let next : after w step ≡ facts_by n (Some x) =
-          (λ k. after w (record { event = at k; outcomes = lines k }))
-          ∙ ap (λ o. step_ended (receiving o) (lines_read o w (lines_by n (Some x)))) comes in
+          let next : after m config w step ≡ facts_by n (Some x) =
+          (λ k. after m config w (record { event = at k; outcomes = lines k }))
+          ∙ ap (λ o. step_ended m config (receiving o) (lines_read m config (came_in o) w (lines_by n (Some x)))) comes in
           let turned = λ (to : Actor). Some (record x { to = to }) in
           let done = subst
           (λ (to : Actor). IsAmong (Got g) (lines_by n (turned to))
@@ -175,7 +176,7 @@ module _ {Value Op : Type 0} (m : Meaning Value Op) (config : Config) (client k 
     told-step : (w : Facts Op) (v : RunState Value Op) → IsPoint m config w v → IsTold client k told w
         → (step : Step Op)
         → IsEventOf m config step.event → step.outcomes ≡ outcomes_of m config w step.event
-        → IsPoint m config (after w step) (stepped m v step.event).run × IsTold client k told (after w step)
+        → IsPoint m config (after m config w step) (stepped m v step.event).run × IsTold client k told (after m config w step)
     told-step w v p h step fits legal =
         let one = step-point m kind_of lawful config w v p step fits legal in
         let more = one.1.later in
@@ -183,7 +184,7 @@ module _ {Value Op : Type 0} (m : Meaning Value Op) (config : Config) (client k 
         let set = subst (λ l. IsSetOf l told) (sym more.accepted.1)
         (set-later w.accepted more.accepted.0 told sound h.set) in
         let next = step-next m config (above client k told) w v h.keeps p.same (answered w.accepted h.set) (opens w h)
-        step legal (answered (after w step).accepted set) in (
+        step legal (answered (after m config w step).accepted set) in (
           one.0,
           record {
             keeps = next.keeps;
@@ -195,12 +196,12 @@ module _ {Value Op : Type 0} (m : Meaning Value Op) (config : Config) (client k 
 
     pub told-later : (steps : List (Step Op)) (w : Facts Op) (v : RunState Value Op) → IsPoint m config w v
         → IsTold client k told w → Fits m config steps → LegalFrom m config w steps
-        → (u : RunState Value Op) × IsPoint m config (facts_after w steps) u
-        × IsTold client k told (facts_after w steps)
+        → (u : RunState Value Op) × IsPoint m config (facts_after m config w steps) u
+        × IsTold client k told (facts_after m config w steps)
     told-later [] w v p h fits legal = (v, p, h)
     told-later (step ∷ steps) w v p h fits legal =
         let one = told-step w v p h step fits.0 legal.0 in
-        told-later steps (after w step) (stepped m v step.event).run one.0 one.1 fits.1 legal.1
+        told-later steps (after m config w step) (stepped m v step.event).run one.0 one.1 fits.1 legal.1
 
 -- ---- after a reply is taken
 
@@ -258,15 +259,15 @@ module _ {Value Op : Type 0} (m : Meaning Value Op) (kind_of : Op → Kind) (law
   pub taken-told : (step : Step Op) → IsEventOf m config step.event → step.outcomes ≡ outcomes_of m config w step.event
       → (client : ℕ) (cid : Cid) (names : SpotSet) (x : SentMessage Op) → IsReply cid names x.what
       → HasTaken m config w step client cid names x
-      → IsPoint m config (after w step) (stepped m v step.event).run
-      × IsTold client (calls_in (after w step) client) names (after w step)
+      → IsPoint m config (after m config w step) (stepped m v step.event).run
+      × IsTold client (calls_in (after m config w step) client) names (after m config w step)
   taken-told step fits legal client cid names x is took =
       let one = step-point m kind_of lawful config w v p step fits legal in
       let next = took.taken.next_is in
       let front = ap (λ (u : Facts Op). u.front client) next ∙ put-same client _ w.front in (
         one.0,
         record {
-          keeps = started client names (after w step) (ap (λ (f : FrontFacts Op). f.open_call) front) one.1.keeps;
+          keeps = started client names (after m config w step) (ap (λ (f : FrontFacts Op). f.open_call) front) one.1.keeps;
           label = λ s here. ap (λ (f : FrontFacts Op). f.label s) front ∙ or-right _ _ here;
           calls = omega arith;
           set = subst (λ (l : List (Acceptance Op)). IsSetOf l names) (sym (ap (λ (u : Facts Op). u.accepted) next))

@@ -17,7 +17,7 @@ use Rattle.lr_base.specs.declared.names.Actor.TheVariants.{Client, Replica}
 use Rattle.lr_base.specs.declared.names.Cid.{Cid}
 use Rattle.lr_base.specs.declared.names.Config.{Config}
 use Rattle.lr_base.specs.declared.names.Spot.{Spot}
-use Rattle.lr_graph.specs.After.{accepts, after, causes_of, delivery_of, lines_read, next_call, step_ended, stepping}
+use Rattle.lr_graph.specs.After.{accepts, after, causes_of, delivery_of, lines_read, next_call, step_ended, stepping, Handling, handling}
 use Rattle.lr_graph.specs.Central.{facts_after}
 use Rattle.lr_graph.specs.Closed.{Each}
 use Rattle.lr_graph.specs.Graph.{Acceptance, Carried, Facts, LabelledCall, SentMessage, UpdateCopy, QueryCopy}
@@ -38,6 +38,7 @@ use Rattle.lr_graph.proofs.Promised.Walk.{after-parts, answers-send, own-next, o
 use Rattle.lr_graph.proofs.Promised.Walk.{taken-again}
 use Rattle.lr_graph.proofs.Related.Relation.{IsSame, IsThere}
 use Rattle.lr_graph.proofs.Replicas.Own.{below_of-is}
+use Rattle.lr_graph.proofs.Handled.{came_in}
 
 -- ---- what lines say
 
@@ -98,9 +99,9 @@ module _ {Value Op : Type 0} (m : Meaning Value Op) where
   }
 
   -- held queries
-  module _ (w : Facts Op) (j : ℕ) (x : Option (SentMessage Op)) where
+  module _ (config : Config) (w : Facts Op) (j : ℕ) (x : Handling Op) where
     abbrev read : List (SentMessage Op) → List Outcome → Facts Op
-    read messages lines = lines_read x (record w { messages = messages }) lines
+    read messages lines = lines_read m config x (record w { messages = messages }) lines
 
     answers-said : (number : ℕ) (calls : List (LabelledCall Op)) (messages : List (SentMessage Op))
         → Each (λ call. WasSent messages (QueryCopy call)) calls
@@ -120,7 +121,7 @@ module _ {Value Op : Type 0} (m : Meaning Value Op) where
             (cond t (answer_line m w number j call ∷ more) (answers m w number j calls))
         by_test false said none = none
         by_test true said none =
-            let rest = answers-send m w j x (suc number) calls (reply_to w j number call ∷ messages) in
+            let rest = answers-send m config w j x (suc number) calls (reply_to w j number call ∷ messages) in
             let one = answer-said w j number call messages rest.0 asked.0 in (
               subst (λ (u : Facts Op). IsSaid u.accepted u.received u.messages (answer_line m w number j call))
                   (sym rest.1) one,
@@ -183,7 +184,7 @@ module _ {Value Op : Type 0} (m : Meaning Value Op) where
     module _ (number : ℕ) (from : Actor) where
       -- the facts after the lines of a delivery
       abbrev came : Actor → Carried Op → List Outcome → Facts Op
-      came to what lines = lines_read (Some (record { number = number; from = from; to = to; what = what })) w lines
+      came to what lines = lines_read m config (came_in (Some (record { number = number; from = from; to = to; what = what }))) w lines
 
       accept-said : (j time : ℕ) (call : LabelledCall Op) (room left : Bool)
           → Said (came (Replica j) (UpdateCopy call time) (accept_lines w j call.cid room left))
@@ -241,7 +242,7 @@ module _ {Value Op : Type 0} (m : Meaning Value Op) where
     own-said v same (Deliver number) = by_found (find (λ x. x.number == number) w.messages) refl
       where
         by_found : (o : Option (SentMessage Op)) → find (λ x. x.number == number) w.messages ≡ o
-            → Said (lines_read o w (delivery_lines m config w number o)) (delivery_lines m config w number o)
+            → Said (lines_read m config (came_in o) w (delivery_lines m config w number o)) (delivery_lines m config w number o)
         by_found None e = (tt, tt)
         by_found (Some x) e =
             message-said x.number x.from v same x.to x.what (sent-there m config w v same number x e)
@@ -249,26 +250,26 @@ module _ {Value Op : Type 0} (m : Meaning Value Op) where
 
   -- what a step's lines say holds after the step
   pub step-said : (config : Config) (w : Facts Op) (v : RunState Value Op) → IsPoint m config w v → (step : Step Op)
-      → step.outcomes ≡ outcomes_of m config w step.event → AllSaid (after w step) step.outcomes
+      → step.outcomes ≡ outcomes_of m config w step.event → AllSaid (after m config w step) step.outcomes
   step-said config w v p step legal =
       let mid = own_read m config w step.event in
       let opens = own-next m config fresh w p.keeps v p.same (λ n cid x r f e. f)
       (λ n client cid own seq e. (let i = ap n own in omega arith, own)) step.event in
-      subst (AllSaid (after w step)) (sym legal)
+      subst (AllSaid (after m config w step)) (sym legal)
       (subst (λ (u : Facts Op). AllSaid u (outcomes_of m config w step.event)) (sym (after-parts m config w step legal))
-      (by_actor (stepping w step.event) mid (delivery_of w step.event) (own_lines m config w step.event) opens.keeps
+      (by_actor (stepping w step.event) mid (handling w step.event) (own_lines m config w step.event) opens.keeps
       (λ new. own-said config w new v p.same step.event)))
     where
-      by_actor : (o : Option ℕ) (mid : Facts Op) (x : Option (SentMessage Op)) (own : List Outcome) → Keeps fresh mid
+      by_actor : (o : Option ℕ) (mid : Facts Op) (x : Handling Op) (own : List Outcome) → Keeps fresh mid
           → ((new : List (SentMessage Op)) → Each (IsSaid mid.accepted mid.received (new ++ mid.messages)) own)
-          → AllSaid (step_ended o (lines_read x mid (answers_at m mid o))) (own ++ answers_at m mid o)
+          → AllSaid (step_ended m config o (lines_read m config x mid (answers_at m mid o))) (own ++ answers_at m mid o)
       by_actor None mid x own k said = each-append _ own [] (said []) tt
       by_actor (Some j) mid x own k said =
-          let rest = answers-send m mid j x (next_number mid) (mid.held j) mid.messages in
+          let rest = answers-send m config mid j x (next_number mid) (mid.held j) mid.messages in
           let asked = each-map _ _ (mid.held j) (λ c f. f.1) (k.held j) in
           each-append _ own (answers_at m mid (Some j))
           (subst (λ (u : Facts Op). AllSaid u own) (sym rest.1) (said rest.0))
-          (answers-said mid j x (next_number mid) (mid.held j) mid.messages asked)
+          (answers-said config mid j x (next_number mid) (mid.held j) mid.messages asked)
 
 -- ---- where a message is taken
 
@@ -277,15 +278,15 @@ module _ {Value Op : Type 0} (m : Meaning Value Op) (kind_of : Op → Kind) (law
     (fits : Fits m config (before ++ sending ∷ between ++ taking ∷ later))
     (legal : IsLegal m config (before ++ sending ∷ between ++ taking ∷ later))
     (n : ℕ) (delivers : taking.event ≡ Deliver n) (client : ℕ) (cid : Cid) (reply : Carried Op)
-    (takes : Takes (before ++ sending ∷ between) taking client cid reply) where
+    (takes : Takes m config (before ++ sending ∷ between) taking client cid reply) where
   abbrev start : List (Step Op)
   start = before ++ sending ∷ between
 
   abbrev sent : Facts Op
-  sent = facts_of (before ++ sending ∷ [])
+  sent = facts_of m config (before ++ sending ∷ [])
 
-  sent-is : sent ≡ after (facts_of before) sending
-  sent-is = facts-parts before (sending ∷ []) first_facts
+  sent-is : sent ≡ after m config (facts_of m config before) sending
+  sent-is = facts-parts m config before (sending ∷ []) first_facts
 
   start_fits : Fits m config start
   start_fits = (each-parts _ start (taking ∷ later) fits).0
@@ -300,25 +301,25 @@ module _ {Value Op : Type 0} (m : Meaning Value Op) (kind_of : Op → Kind) (law
       let at = any-point m kind_of lawful config before
       (each-parts _ before (sending ∷ between) start_fits).0 legal0.0 in
       subst (λ (u : Facts Op). AllSaid m u sending.outcomes) (sym sent-is)
-      (step-said m config (facts_of before) at.0 at.1 sending legal0.1.0)
+      (step-said m config (facts_of m config before) at.0 at.1 sending legal0.1.0)
 
   -- what it sent under this number is taken
   pub reply-is : (x : SentMessage Op) → x.number ≡ n → IsAmong x sent.messages → reply ≡ x.what
   reply-is x number among =
       let fits0 = each-parts _ before (sending ∷ between) start_fits in
       let legal0 = legal-parts m config before (sending ∷ between) first_facts start_legal in
-      let w = facts_of before in
+      let w = facts_of m config before in
       let at = any-point m kind_of lawful config before fits0.0 legal0.0 in
       let next = step-point m kind_of lawful config w at.0 at.1 sending fits0.1.0 legal0.1.0 in
-      let last = later-point m kind_of lawful config between (after w sending) (stepped m at.0 sending.event).run next.0
+      let last = later-point m kind_of lawful config between (after m config w sending) (stepped m at.0 sending.event).run next.0
       fits0.1.1 legal0.1.1 in
-      let now = facts_after (after w sending) between in
+      let now = facts_after m config (after m config w sending) between in
       let was = subst (λ (u : Facts Op). IsAmong x u.messages) sent-is among in
       let stays = subst (IsAmong x) (sym last.2.messages.1)
-      (among-right x last.2.messages.0 (after w sending).messages was) in
-      let same : facts_of start ≡ now = facts-parts before (sending ∷ between) first_facts in
+      (among-right x last.2.messages.0 (after m config w sending).messages was) in
+      let same : facts_of m config start ≡ now = facts-parts m config before (sending ∷ between) first_facts in
       let one : Some takes.message ≡ Some x =
-      sym takes.comes ∙ ap (delivery_of (facts_of start)) delivers
+      sym takes.comes ∙ ap (delivery_of (facts_of m config start)) delivers
       ∙ ap (λ (u : Facts Op). find (λ x. x.number == n) u.messages) same
       ∙ ap (λ k. find (λ (x : SentMessage Op). x.number == k) now.messages) (sym number)
       ∙ found-among x now.messages last.1.keeps.numbered stays in

@@ -20,8 +20,8 @@ use Rattle.lr_base.specs.declared.names.Actor.TheVariants.{Client, Replica}
 use Rattle.lr_base.specs.declared.names.Cid.{Cid}
 use Rattle.lr_base.specs.declared.names.Config.{Config}
 use Rattle.lr_base.specs.declared.names.Spot.{Spot}
-use Rattle.lr_graph.specs.After.{accepts, after, call_read, delivery_of, end_read, event_read, line_read, lines_read}
-use Rattle.lr_graph.specs.After.{got_read, receiving, step_ended, stepping, takes_reply}
+use Rattle.lr_graph.specs.After.{accepts, after, call_read, end_read, event_read, line_read, lines_read, Handling, handling}
+use Rattle.lr_graph.specs.After.{got_read, step_ended, stepping, takes_reply}
 use Rattle.lr_graph.specs.Closed.{Each, HasApartSpots}
 use Rattle.lr_graph.specs.Graph.{Acceptance, Carried, Facts, FrontFacts, LabelledCall, SentMessage}
 use Rattle.lr_graph.specs.Graph.{UpdateCopy, QueryCopy, DoneReply, AnswerReply, GossipOf, Blank}
@@ -42,15 +42,16 @@ use Rattle.lr_graph.proofs.Related.Ties.{IsTableOf}
 use Rattle.lr_graph.proofs.Replicas.Own.{below_of-is}
 use Rattle.lr_graph.proofs.Replicas.Stepping.{lines_read-append}
 use Rattle.lr_graph.proofs.Sets.KeptSpots.{least_spot-is}
+use Rattle.lr_graph.proofs.Handled.{alone, came_in, receiving}
 
 -- ---- the end of a replica's step
 
-module _ {Value Op : Type 0} (m : Meaning Value Op) (w : Facts Op) (i : ℕ) (x : Option (SentMessage Op)) where
+module _ {Value Op : Type 0} (m : Meaning Value Op) (config : Config) (w : Facts Op) (i : ℕ) (x : Handling Op) where
   -- answers only send
   abbrev pub Sends : List (SentMessage Op) → List Outcome → Type 0
   Sends messages lines =
       (new : List (SentMessage Op))
-      × (lines_read x (record w { messages = messages }) lines ≡ record w { messages = new ++ messages })
+      × (lines_read m config x (record w { messages = messages }) lines ≡ record w { messages = new ++ messages })
 
   pub answers-send : (number : ℕ) (calls : List (LabelledCall Op)) (messages : List (SentMessage Op))
       → Sends messages (answers m w number i calls)
@@ -80,27 +81,27 @@ module _ {Value Op : Type 0} (m : Meaning Value Op) (w : Facts Op) (i : ℕ) (x 
 module _ {Value Op : Type 0} (m : Meaning Value Op) (config : Config) (w : Facts Op) where
   -- the facts after the lines of the event itself
   abbrev pub own_read : Event Op → Facts Op
-  own_read event = lines_read (delivery_of w event) (event_read w event) (own_lines m config w event)
+  own_read event = lines_read m config (handling w event) (event_read w event) (own_lines m config w event)
 
   module _ (step : Step Op) (legal : step.outcomes ≡ outcomes_of m config w step.event) where
-    pub after-parts : after w step ≡ step_ended (stepping w step.event) (lines_read (delivery_of w step.event)
+    pub after-parts : after m config w step ≡ step_ended m config (stepping w step.event) (lines_read m config (handling w step.event)
         (own_read step.event) (answers_at m (own_read step.event) (stepping w step.event)))
     after-parts =
-        let x = delivery_of w step.event in
+        let x = handling w step.event in
         let start = event_read w step.event in
-        ap (λ (lines : List Outcome). step_ended (stepping w step.event) (lines_read x start lines)) legal
-        ∙ ap (step_ended (stepping w step.event)) (lines_read-append x start (own_lines m config w step.event) _)
+        ap (λ (lines : List Outcome). step_ended m config (stepping w step.event) (lines_read m config x start lines)) legal
+        ∙ ap (step_ended m config (stepping w step.event)) (lines_read-append m config x start (own_lines m config w step.event) _)
 
     -- behind its own part a step of a replica only sends, and then ends
     pub after-ended : (i : ℕ) → stepping w step.event ≡ Some i → (new : List (SentMessage Op))
-        × (after w step ≡ end_read
+        × (after m config w step ≡ end_read
         (record (own_read step.event) { messages = new ++ (own_read step.event).messages }) i)
     after-ended i e =
         let mid = own_read step.event in
-        let x = delivery_of w step.event in
-        let sent = answers-send m mid i x (next_number mid) (mid.held i) mid.messages in (
+        let x = handling w step.event in
+        let sent = answers-send m config mid i x (next_number mid) (mid.held i) mid.messages in (
           sent.0,
-          after-parts ∙ ap (λ o. step_ended o (lines_read x mid (answers_at m mid o))) e
+          after-parts ∙ ap (λ o. step_ended m config o (lines_read m config x mid (answers_at m mid o))) e
               ∙ ap (λ (u : Facts Op). end_read u i) sent.1,
         )
 
@@ -172,7 +173,7 @@ module _ {Value Op : Type 0} (m : Meaning Value Op) (config : Config) (R : Rule)
 
     again-next : (i : ℕ) (x : SentMessage Op) (call : LabelledCall Op) (spot : Spot) → HasApartSpots w.accepted
         → IsDone w.accepted call.cid spot
-        → Next (Some i) w (lines_read (Some x) w (update_lines config w i call.cid (Some spot)))
+        → Next (Some i) w (lines_read m config (came_in (Some x)) w (update_lines config w i call.cid (Some spot)))
     again-next i x call spot apart a =
         next-sent R (Some i) w h (Replica i) (Client call.cid.client) (Done call.cid spot)
         (a.0, a.1, a.2, sym (ap (below_of w.accepted) (sym a.3) ∙ below_of-is w.accepted apart a.0 a.1))
@@ -182,7 +183,7 @@ module _ {Value Op : Type 0} (m : Meaning Value Op) (config : Config) (R : Rule)
       message what = record { number = number; from = from; to = Replica i; what = what }
 
       accepted-next : (time : ℕ) (room left : Bool)
-          → Next (Some i) w (lines_read (Some (message (UpdateCopy call time))) w (accept_lines w i call.cid room left))
+          → Next (Some i) w (lines_read m config (came_in (Some (message (UpdateCopy call time)))) w (accept_lines w i call.cid room left))
       accepted-next time false left = next-same R (Some i) w h
       accepted-next time true false = next-same R (Some i) w h
       accepted-next time true true =
@@ -195,7 +196,7 @@ module _ {Value Op : Type 0} (m : Meaning Value Op) (config : Config) (R : Rule)
 
       query-next : (within room : Bool) → IsAnswered w.accepted → WasSent w.messages (QueryCopy call)
           → is_within w.accepted call.label (w.received i) ≡ within
-          → Next (Some i) w (lines_read (Some (message (QueryCopy call))) w (query_lines m w i call within room))
+          → Next (Some i) w (lines_read m config (came_in (Some (message (QueryCopy call)))) w (query_lines m w i call within room))
       query-next true room answered sent e =
           next-sent R (Some i) w h (Replica i) (Client call.cid.client) (Answer call.cid [])
           (answered (calls_in w) call.cid call.label (w.received i) fine e)
@@ -207,14 +208,14 @@ module _ {Value Op : Type 0} (m : Meaning Value Op) (config : Config) (R : Rule)
     -- a front end takes the reply, or it is stale
     reply-next : (client : ℕ) (cid : Cid) (names : SpotSet) (o : Option (LabelledCall Op)) (x : SentMessage Op)
         → got_read w x.to x.what ≡ takes_reply w client names
-        → Next None w (lines_read (Some x) w (reply_line o cid ∷ []))
+        → Next None w (lines_read m config (came_in (Some x)) w (reply_line o cid ∷ []))
     reply-next client cid names None x is = next-same R None w h
     reply-next client cid names (Some call) x is = by_test (same_cid call.cid cid)
       where
         taken : FrontFacts Op
         taken = record (w.front client) { label = (w.front client).label ∪ names; open_call = None }
 
-        by_test : (t : Bool) → Next None w (lines_read (Some x) w (cond t (Got cid) (Stale cid) ∷ []))
+        by_test : (t : Bool) → Next None w (lines_read m config (came_in (Some x)) w (cond t (Got cid) (Stale cid) ∷ []))
         by_test false = next-same R None w h
         by_test true =
             subst (Next None w) (sym is)
@@ -224,14 +225,14 @@ module _ {Value Op : Type 0} (m : Meaning Value Op) (config : Config) (R : Rule)
       message-next : (number : ℕ) (from to : Actor) (what : Carried Op) → IsThere config to
           → IsFine (R.of (calls_in w)) w.accepted what → WasSent w.messages what
           → Next (receiving (Some (record { number = number; from = from; to = to; what = what }))) w
-          (lines_read (Some (record { number = number; from = from; to = to; what = what })) w
+          (lines_read m config (came_in (Some (record { number = number; from = from; to = to; what = what }))) w
           (message_lines m config w to what))
       message-next number from (Replica i) (UpdateCopy call time) here fine sent =
           by_spot (taken_at config w i call.cid (kept_spot (w.kept i) call.cid)) refl
         where
           by_spot : (o : Option Spot) → taken_at config w i call.cid (kept_spot (w.kept i) call.cid) ≡ o
               → Next (Some i) w
-              (lines_read (Some (message i number from call fine (UpdateCopy call time))) w
+              (lines_read m config (came_in (Some (message i number from call fine (UpdateCopy call time)))) w
               (update_lines config w i call.cid o))
           by_spot None e = accepted-next i number from call fine time _ _
           by_spot (Some spot) e =
@@ -255,7 +256,7 @@ module _ {Value Op : Type 0} (m : Meaning Value Op) (config : Config) (R : Rule)
       message-next number from (Client c) Blank here fine sent = next-same R None w h
 
       delivery-next : (n : ℕ) (o : Option (SentMessage Op)) → find (λ x. x.number == n) w.messages ≡ o
-          → Next (receiving o) w (lines_read o w (delivery_lines m config w n o))
+          → Next (receiving o) w (lines_read m config (came_in o) w (delivery_lines m config w n o))
       delivery-next n None e = next-same R None w h
       delivery-next n (Some x) e =
           let found = find-some (λ x. x.number == n) w.messages x e in
@@ -272,7 +273,7 @@ module _ {Value Op : Type 0} (m : Meaning Value Op) (config : Config) (R : Rule)
         (w.front client).open_call (h.opened client))
 
     call-next : IsOpened w → (client replica reading clock : ℕ) (op : Op) (o : Option (LabelledCall Op)) (worn : Bool)
-        → Next None w (lines_read None
+        → Next None w (lines_read m config (alone (Some (Client client)))
         (record w { front = put_at client (call_read client reading op (w.front client) o worn) w.front })
         (call_lines m w client replica clock op o worn))
     call-next opens client replica reading clock op (Some call) worn = clock-next client
@@ -292,7 +293,7 @@ module _ {Value Op : Type 0} (m : Meaning Value Op) (config : Config) (R : Rule)
         cid = record { client = client; seq = suc (calls_in w client) }
 
         sent : (t : Bool) → Keeps R next → Next None next
-            (line_read None next
+            (line_read m config (alone (Some (Client client))) next
             (Send (next_number w) (Client client) (Replica replica) (cond t (Query cid) (Update cid clock))))
         sent true k =
             next-sent R None next k (Client client) (Replica replica) (Query cid)
@@ -323,13 +324,13 @@ module _ {Value Op : Type 0} (m : Meaning Value Op) (config : Config) (R : Rule)
       next-holding R i w h (filter waits (w.held i)) (end_read w i).kept
       (each-map _ _ (filter waits (w.held i)) (λ c k. k.0) (filter-each (IsHeldFine R w) waits (w.held i) (h.held i)))
 
-  module _ (w : Facts Op) (i : ℕ) (x : Option (SentMessage Op)) (answered : IsAnswered w.accepted) where
+  module _ (w : Facts Op) (i : ℕ) (x : Handling Op) (answered : IsAnswered w.accepted) where
     abbrev now : List (SentMessage Op) → Facts Op
     now messages = record w { messages = messages }
 
     answers-next : (calls : List (LabelledCall Op)) → Each (λ c. R.of (calls_in w) c.cid c.label) calls
         → (messages : List (SentMessage Op)) → Keeps R (now messages)
-        → Next (Some i) (now messages) (lines_read x (now messages) (answers m w (suc (length messages)) i calls))
+        → Next (Some i) (now messages) (lines_read m config x (now messages) (answers m w (suc (length messages)) i calls))
     answers-next [] fine messages k = next-same R (Some i) (now messages) k
     answers-next (call ∷ calls) fine messages k =
         by_test (is_within w.accepted call.label (w.received i)) refl
@@ -337,9 +338,9 @@ module _ {Value Op : Type 0} (m : Meaning Value Op) (config : Config) (R : Rule)
       where
         by_test : (t : Bool) → is_within w.accepted call.label (w.received i) ≡ t
             → ((more : List (SentMessage Op)) → Keeps R (now more)
-            → Next (Some i) (now more) (lines_read x (now more) (answers m w (suc (length more)) i calls)))
-            → Next (Some i) (now messages) (lines_read x (now messages) (answers m w (suc (length messages)) i calls))
-            → Next (Some i) (now messages) (lines_read x (now messages)
+            → Next (Some i) (now more) (lines_read m config x (now more) (answers m w (suc (length more)) i calls)))
+            → Next (Some i) (now messages) (lines_read m config x (now messages) (answers m w (suc (length messages)) i calls))
+            → Next (Some i) (now messages) (lines_read m config x (now messages)
             (cond t (answer_line m w (suc (length messages)) i call ∷ answers m w (suc (suc (length messages))) i calls)
             (answers m w (suc (length messages)) i calls)))
         by_test false e sent none = none
@@ -352,22 +353,22 @@ module _ {Value Op : Type 0} (m : Meaning Value Op) (config : Config) (R : Rule)
 
   pub step-next : (w : Facts Op) (v : RunState Value Op) → Keeps R w → IsSame m config w v → IsAnswered w.accepted
       → IsOpened w → (step : Step Op) → step.outcomes ≡ outcomes_of m config w step.event
-      → IsAnswered (after w step).accepted → Next (stepping w step.event) w (after w step)
+      → IsAnswered (after m config w step).accepted → Next (stepping w step.event) w (after m config w step)
   step-next w v h same answered opens step legal last =
       let is = after-parts m config w step legal in
       let own = own-next w h v same answered opens step.event in
       subst (Next (stepping w step.event) w) (sym is)
-      (by_actor (stepping w step.event) (own_read m config w step.event) (delivery_of w step.event) own
+      (by_actor (stepping w step.event) (own_read m config w step.event) (handling w step.event) own
       (subst (λ (u : Facts Op). IsAnswered u.accepted) is last))
     where
-      by_actor : (o : Option ℕ) (mid : Facts Op) (x : Option (SentMessage Op)) → Next o w mid
-          → IsAnswered (step_ended o (lines_read x mid (answers_at m mid o))).accepted
-          → Next o w (step_ended o (lines_read x mid (answers_at m mid o)))
+      by_actor : (o : Option ℕ) (mid : Facts Op) (x : Handling Op) → Next o w mid
+          → IsAnswered (step_ended m config o (lines_read m config x mid (answers_at m mid o))).accepted
+          → Next o w (step_ended m config o (lines_read m config x mid (answers_at m mid o)))
       by_actor None mid x one last = one
       by_actor (Some i) mid x one last =
-          let sent = answers-send m mid i x (next_number mid) (mid.held i) mid.messages in
+          let sent = answers-send m config mid i x (next_number mid) (mid.held i) mid.messages in
           let answered = subst IsAnswered (ap (λ (u : Facts Op). u.accepted) sent.1) last in
           next-more R (Some i) w mid _ one (λ k.
           next-more R (Some i) mid _ _ (answers-next mid i x answered (mid.held i)
           (each-map _ _ (mid.held i) (λ c f. f.0) (k.held i)) mid.messages k)
-          (ended-next i (lines_read x mid (answers m mid (next_number mid) i (mid.held i)))))
+          (ended-next i (lines_read m config x mid (answers m mid (next_number mid) i (mid.held i)))))

@@ -15,7 +15,7 @@ use Rattle.lr_base.specs.declared.names.Actor.TheVariants.{Client, Replica}
 use Rattle.lr_base.specs.declared.names.Cid.{Cid}
 use Rattle.lr_base.specs.declared.names.Config.{Config}
 use Rattle.lr_base.specs.declared.names.Spot.{Spot}
-use Rattle.lr_graph.specs.After.{lines_read}
+use Rattle.lr_graph.specs.After.{lines_read, Handling}
 use Rattle.lr_graph.specs.Closed.{Each, IsSetOf, IsSound}
 use Rattle.lr_graph.specs.Graph.{Acceptance, AnswerReply, Facts, Kept, LabelledCall, SentMessage, is_within, ready, value}
 use Rattle.lr_graph.specs.Legal.{answer_line, answers, logged}
@@ -92,7 +92,7 @@ module _ {Value Op : Type 0} (m : Meaning Value Op) (config : Config) (w : Facts
 
   -- ---- the messages of the answers
 
-  module _ (issued : Cid → Option (LabelledCall Op)) (fronts : List FrontState) (x : Option (SentMessage Op)) where
+  module _ (issued : Cid → Option (LabelledCall Op)) (fronts : List FrontState) (x : Handling Op) where
     -- after some lines there are more messages, as many as were posted, and nothing else changed
     pub record HasSent (after : Facts Op) (posted : List (Posted Op)) : Type 0 where
       pub messages : List (SentMessage Op)
@@ -101,7 +101,7 @@ module _ {Value Op : Type 0} (m : Meaning Value Op) (config : Config) (w : Facts
 
     pub answers-sent : (k : ℕ) (cs : List (LabelledCall Op)) (ds : List (Call Op)) → SameList (SameHeld config.clients w.accepted) cs ds
         → (messages : List (SentMessage Op)) (posted : List (Posted Op)) → k ≡ length posted + 1 → IsShared m config issued (record w { messages = messages }) fronts posted
-        → HasSent (lines_read x (record w { messages = messages }) (answers m w k i cs)) (posted ++ act_posts (Replica i) (held_acts m now ds))
+        → HasSent (lines_read m config x (record w { messages = messages }) (answers m w k i cs)) (posted ++ act_posts (Replica i) (held_acts m now ds))
     answers-sent k [] [] h messages posted e shared = record { messages = messages; facts = refl; shared = subst (λ (ps : List (Posted Op)). IsShared m config issued (record w { messages = messages }) fronts ps) (sym (append-nil posted)) shared }
     answers-sent k [] (d ∷ ds) h messages posted e shared = absurd h
     answers-sent k (c ∷ cs) [] h messages posted e shared = absurd h
@@ -117,12 +117,12 @@ module _ {Value Op : Type 0} (m : Meaning Value Op) (config : Config) (w : Facts
         post = posting (Replica i) (Client d.cid.client) (Answer d.cid (m.read now.value d.op) now.val_ts)
 
         at_head : (s t : Bool) → s ≡ t
-            → HasSent (lines_read x (record w { messages = messages }) (answers m w k i cs)) (posted ++ act_posts (Replica i) (held_acts m now ds))
+            → HasSent (lines_read m config x (record w { messages = messages }) (answers m w k i cs)) (posted ++ act_posts (Replica i) (held_acts m now ds))
             → (IsShared m config issued (record w { messages = sent ∷ messages }) fronts (posted ++ post ∷ [])
-            → HasSent (lines_read x (record w { messages = sent ∷ messages }) (answers m w (suc k) i cs)) ((posted ++ post ∷ []) ++ act_posts (Replica i) (held_acts m now ds)))
-            → HasSent (lines_read x (record w { messages = messages }) (cond s (answer_line m w k i c ∷ answers m w (suc k) i cs) (answers m w k i cs))) (posted ++ act_posts (Replica i) (cond t (answer_act m now d ∷ held_acts m now ds) (held_acts m now ds)))
+            → HasSent (lines_read m config x (record w { messages = sent ∷ messages }) (answers m w (suc k) i cs)) ((posted ++ post ∷ []) ++ act_posts (Replica i) (held_acts m now ds)))
+            → HasSent (lines_read m config x (record w { messages = messages }) (cond s (answer_line m w k i c ∷ answers m w (suc k) i cs) (answers m w k i cs))) (posted ++ act_posts (Replica i) (cond t (answer_act m now d ∷ held_acts m now ds) (held_acts m now ds)))
         at_head true true q out in_first =
-            subst (λ (ps : List (Posted Op)). HasSent (lines_read x (record w { messages = sent ∷ messages }) (answers m w (suc k) i cs)) ps) (append_assoc posted (post ∷ []) (act_posts (Replica i) (held_acts m now ds)))
+            subst (λ (ps : List (Posted Op)). HasSent (lines_read m config x (record w { messages = sent ∷ messages }) (answers m w (suc k) i cs)) ps) (append_assoc posted (post ∷ []) (act_posts (Replica i) (held_acts m now ds)))
             (in_first (message-sent m config issued (record w { messages = messages }) fronts posted shared sent post e
             (record { from = refl; to = ap (λ (cid : Cid). Client cid.client) h.0.call.cid; way = tt; there = h.0.client; what = same_answer c.cid d.cid (ready w.accepted (w.received i)) _ now.val_ts h.0.call.cid names (ready-set w.accepted sound (w.received i)) })))
         at_head false false q out in_first = out

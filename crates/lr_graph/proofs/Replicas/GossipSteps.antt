@@ -30,6 +30,7 @@ use Rattle.lr_graph.proofs.Related.Relation.{IsReplicaAt, IsShared, IsTied, Same
 use Rattle.lr_graph.proofs.Replicas.Stepping.{IsOwnPart, put-other, put-same}
 use Rattle.lr_graph.proofs.Lists.Tests.{never, or-cases, or-left}
 use Rattle.lr_graph.proofs.Related.Ties.{IsPending}
+use Rattle.lr_graph.proofs.Handled.{alone, came_in}
 
 -- a stamp joined to one with as many parts keeps their count
 length-joined : (a b : List ℕ) (n : ℕ) → length a ≡ n → length b ≡ n → length (join a b) ≡ n
@@ -130,8 +131,8 @@ module _ {Value Op : Type 0} (m : Meaning Value Op) (config : Config) (issued : 
         let old = others j apart within in
         (old.0, old.1, subst (λ (r : SpotSet). IsReplicaAt m config w.accepted r (λ s. not (config.replicas == 1) && r s) (w.kept j) (w.held j) old.0) (sym (put-other i j (w.received i ∪ names) w.received apart)) old.2)
 
-    pub own-taken : IsOwnPart m config issued w v i (Some (record { number = number; from = Replica from; to = Replica i; what = GossipOf names })) (take_line w i names ∷ []) (gossip_given from state gossip (from == i))
-    own-taken = subst (λ (t : Bool). IsOwnPart m config issued w v i (Some (record { number = number; from = Replica from; to = Replica i; what = GossipOf names })) (take_line w i names ∷ []) (gossip_given from state gossip t)) (sym other) (record {
+    pub own-taken : IsOwnPart m config issued w v i (came_in (Some (record { number = number; from = Replica from; to = Replica i; what = GossipOf names }))) (take_line w i names ∷ []) (gossip_given from state gossip (from == i))
+    own-taken = subst (λ (t : Bool). IsOwnPart m config issued w v i (came_in (Some (record { number = number; from = Replica from; to = Replica i; what = GossipOf names }))) (take_line w i names ∷ []) (gossip_given from state gossip t)) (sym other) (record {
       lines = λ k. Take (count_is k) ∷ [];
       shared = shared_taken;
       mid = mid_taken;
@@ -141,7 +142,7 @@ module _ {Value Op : Type 0} (m : Meaning Value Op) (config : Config) (issued : 
   -- ---- gossip is sent
 
   pub own-sent : (to : ℕ) → to < config.replicas → i ≢ to → (several : (config.replicas == 1) ≡ false)
-      → IsOwnPart m config issued w v i None (SendLine (next_number w) (Replica i) (Replica to) GossipSent ∷ []) (record { state = state; acts = Send (Replica to) (GossipMessage (gossip_of state)) ∷ [] })
+      → IsOwnPart m config issued w v i (alone (Some (Replica i))) (SendLine (next_number w) (Replica i) (Replica to) GossipSent ∷ []) (record { state = state; acts = Send (Replica to) (GossipMessage (gossip_of state)) ∷ [] })
   own-sent to within apart several = record {
     lines = λ k. SendLine (next_is k) (Replica i) (Replica to) GossipSent ∷ [];
     shared = message-sent m config issued w v.fronts v.posted shared sent (posting (Replica i) (Replica to) (GossipMessage (gossip_of state))) next_is

@@ -30,6 +30,7 @@ use Rattle.lr_graph.proofs.Replicas.Posting.{message-sent, posting}
 use Rattle.lr_graph.proofs.Related.Relation.{IsReplicaAt, IsShared, IsTied, SameCall, same_answer, same_done}
 use Rattle.lr_graph.proofs.Replicas.Stepping.{IsOwnPart}
 use Rattle.lr_graph.proofs.Lists.Tests.{same_spot-self}
+use Rattle.lr_graph.specs.After.{Handling}
 
 -- what is below the acceptance of a spot
 pub below_of-is : {Op : Type 0} (l : List (Acceptance Op)) → HasApartSpots l → (a : Acceptance Op) → IsAmong a l → below_of l a.spot ≡ a.below
@@ -53,7 +54,7 @@ unchanged-mid m config w i state sound ok = record {
 
 module _ {Value Op : Type 0} (m : Meaning Value Op) (config : Config) (issued : Cid → Option (LabelledCall Op)) (w : Facts Op) (v : RunState Value Op) (shared : IsShared m config issued w v.fronts v.posted)
     (i : ℕ) (state : CausalState Value Op) (ok : IsReplicaAt m config w.accepted (w.received i) (logged config w i) (w.kept i) (w.held i) state)
-    (others : (j : ℕ) → j ≢ i → j < config.replicas → IsTied m config w v.replicas j) (x : Option (SentMessage Op)) where
+    (others : (j : ℕ) → j ≢ i → j < config.replicas → IsTied m config w v.replicas j) (x : Handling Op) where
   same_posts : IsShared m config issued w v.fronts (v.posted ++ [])
   same_posts = subst (λ (ps : List (Posted Op)). IsShared m config issued w v.fronts ps) (sym (append-nil v.posted)) shared
 

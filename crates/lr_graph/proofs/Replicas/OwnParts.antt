@@ -20,7 +20,7 @@ use Rattle.lr_base.specs.declared.names.Actor.TheVariants.{Client, Replica}
 use Rattle.lr_base.specs.declared.names.Cid.{Cid}
 use Rattle.lr_base.specs.declared.names.Config.{Config}
 use Rattle.lr_base.specs.declared.names.Spot.{Spot}
-use Rattle.lr_graph.specs.Graph.{Carried, Facts, LabelledCall, QueryCopy, SentMessage, UpdateCopy, is_within, kept_spot, least_spot, made, size_of}
+use Rattle.lr_graph.specs.Graph.{Carried, Facts, LabelledCall, QueryCopy, UpdateCopy, is_within, kept_spot, least_spot, made, size_of}
 use Rattle.lr_graph.specs.Legal.{accept_lines, done_line, logged, message_lines, query_lines, taken_at, update_lines}
 use Rattle.lr_graph.specs.Names.{spot_at}
 use Rattle.lr_graph.specs.Runs.{RunState}
@@ -36,6 +36,8 @@ use Rattle.lr_graph.proofs.Related.Relation.{IsIssued, IsReplicaAt, IsShared, Is
 use Rattle.lr_graph.proofs.Replicas.Stepping.{IsOwnPart}
 use Rattle.lr_graph.proofs.Logs.Tallying.{made-count}
 use Rattle.lr_graph.proofs.Lists.Tests.{never}
+use Rattle.lr_graph.specs.After.{Handling}
+use Rattle.lr_graph.proofs.Handled.{came_in}
 
 same-length : {A B : Type 0} (R : A → B → Type 0) (xs : List A) (ys : List B) → SameList R xs ys → length xs ≡ length ys
 same-length R [] [] h = refl
@@ -50,8 +52,8 @@ in-time n = never _ (λ e. let h = leb-true (suc n) 0 e in absurd (omega arith))
 module _ {Value Op : Type 0} (m : Meaning Value Op) (config : Config) (issued : Cid → Option (LabelledCall Op)) (w : Facts Op) (v : RunState Value Op) (shared : IsShared m config issued w v.fronts v.posted)
     (i : ℕ) (here : i < config.replicas) (state : CausalState Value Op) (ok : IsReplicaAt m config w.accepted (w.received i) (logged config w i) (w.kept i) (w.held i) state)
     (others : (j : ℕ) → j ≢ i → j < config.replicas → IsTied m config w v.replicas j) (number : ℕ) (from : Actor) where
-  abbrev came : Carried Op → Option (SentMessage Op)
-  came what = Some (record { number = number; from = from; to = Replica i; what = what })
+  abbrev came : Carried Op → Handling Op
+  came what = came_in (Some (record { number = number; from = from; to = Replica i; what = what }))
 
   -- ---- a query
 
@@ -164,7 +166,7 @@ module _ {Value Op : Type 0} (m : Meaning Value Op) (config : Config) (issued : 
     (others : (j : ℕ) → j ≢ i → j < config.replicas → IsTied m config w v.replicas j) (number : ℕ) where
   -- the message and where it comes from
   abbrev CameFrom : Actor → Carried Op → List Outcome → Ending Value Op → Type 0
-  CameFrom from what lines end = IsOwnPart m config issued w v i (Some (record { number = number; from = from; to = Replica i; what = what })) lines end
+  CameFrom from what lines end = IsOwnPart m config issued w v i (came_in (Some (record { number = number; from = from; to = Replica i; what = what }))) lines end
 
   pub own-part : (from : Actor) (what : Carried Op) (message : Message Op) → IsWay from (Replica i) what → SameCarried m config w.accepted w.received issued (calls_in w) what message
       → CameFrom from what (message_lines m config w (Replica i) what) (own_taken m config i state from message)

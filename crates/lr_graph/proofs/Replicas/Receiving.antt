@@ -36,6 +36,8 @@ use Rattle.lr_graph.proofs.Related.Relation.{IsAcceptance, IsIssued, IsReplicaAt
 use Rattle.lr_graph.proofs.Replicas.Stepping.{IsOwnPart, put-other, put-same}
 use Rattle.lr_graph.proofs.Lists.Tests.{or-cases, or-left, or-right, same_spot-is, same_spot-self}
 use Rattle.lr_graph.proofs.Related.Ties.{IsPending}
+use Rattle.lr_graph.specs.After.{Handling}
+use Rattle.lr_graph.proofs.Handled.{came_in}
 
 -- ---- a query is held
 
@@ -49,8 +51,8 @@ same-held-behind clients l (b ∷ cs) (e ∷ ds) c d h k = (h.0, same-held-behin
 module _ {Value Op : Type 0} (m : Meaning Value Op) (config : Config) (issued : Cid → Option (LabelledCall Op)) (w : Facts Op) (v : RunState Value Op) (shared : IsShared m config issued w v.fronts v.posted)
     (i : ℕ) (here : i < config.replicas) (state : CausalState Value Op) (ok : IsReplicaAt m config w.accepted (w.received i) (logged config w i) (w.kept i) (w.held i) state)
     (others : (j : ℕ) → j ≢ i → j < config.replicas → IsTied m config w v.replicas j) (number : ℕ) (from : Actor) where
-  abbrev asked : LabelledCall Op → Option (SentMessage Op)
-  asked c = Some (record { number = number; from = from; to = Replica i; what = QueryCopy c })
+  abbrev asked : LabelledCall Op → Handling Op
+  asked c = came_in (Some (record { number = number; from = from; to = Replica i; what = QueryCopy c }))
 
   pub own-held : (c : LabelledCall Op) (d : Call Op) → SameCall w.accepted c d → c.cid.client < config.clients
       → IsOwnPart m config issued w v i (asked c) (Hold c.cid ∷ []) (record { state = held_more state d; acts = Say (Hold d.cid) ∷ [] })
@@ -249,7 +251,7 @@ module _ {Value Op : Type 0} (m : Meaning Value Op) (config : Config) (issued : 
       )
 
   pub own-accepted : (number : ℕ) (from : Actor) (time : ℕ)
-      → IsOwnPart m config issued w v i (Some (record { number = number; from = from; to = Replica i; what = UpdateCopy c time })) (Accept spot c.cid ∷ done_line w i c.cid spot ∷ [])
+      → IsOwnPart m config issued w v i (came_in (Some (record { number = number; from = from; to = Replica i; what = UpdateCopy c time }))) (Accept spot c.cid ∷ done_line w i c.cid spot ∷ [])
       (record { state = after_it; acts = Say (Accept spot d.cid) ∷ done_act d.cid spot stamp ∷ [] })
   own-accepted number from time = record {
     lines = λ k. Accept spot (same.cid k) ∷ Send (next_is k) (Replica i) (Client (same.cid k).client) (DoneSent (same.cid k) spot) ∷ [];

@@ -14,9 +14,9 @@ use Rattle.lr_base.specs.declared.lr_service.Kind.{Kind}
 use Rattle.lr_base.specs.declared.names.Actor.TheVariants.{Replica}
 use Rattle.lr_base.specs.declared.names.Cid.{Cid}
 use Rattle.lr_base.specs.declared.names.Config.{Config}
-use Rattle.lr_graph.specs.After.{end_read, line_read, lines_read, step_ended}
+use Rattle.lr_graph.specs.After.{end_read, line_read, lines_read, step_ended, Handling}
 use Rattle.lr_graph.specs.Closed.{Each}
-use Rattle.lr_graph.specs.Graph.{Acceptance, Facts, Kept, LabelledCall, SentMessage, is_within, keep_new, ready}
+use Rattle.lr_graph.specs.Graph.{Acceptance, Facts, Kept, LabelledCall, is_within, keep_new, ready}
 use Rattle.lr_graph.specs.Legal.{answers_at, logged, next_number}
 use Rattle.lr_graph.specs.Runs.{RunState, act_lines, act_posts}
 use Rattle.lr_graph.specs.Sets.{put_at}
@@ -38,9 +38,9 @@ pub put-other : {X : Type 0} (i j : ℕ) (x : X) (table : ℕ → X) → j ≢ i
 put-other i j x table apart = ap (λ t. cond t x (table j)) (never (j == i) (λ e. apart (eqb-true j i e)))
 
 -- lines are read one list after the other
-pub lines_read-append : {Op : Type 0} (x : Option (SentMessage Op)) (w : Facts Op) (xs ys : List Outcome) → lines_read x w (xs ++ ys) ≡ lines_read x (lines_read x w xs) ys
-lines_read-append x w [] ys = refl
-lines_read-append x w (line ∷ xs) ys = lines_read-append x (line_read x w line) xs ys
+pub lines_read-append : {Value Op : Type 0} (m : Meaning Value Op) (config : Config) (x : Handling Op) (w : Facts Op) (xs ys : List Outcome) → lines_read m config x w (xs ++ ys) ≡ lines_read m config x (lines_read m config x w xs) ys
+lines_read-append m config x w [] ys = refl
+lines_read-append m config x w (line ∷ xs) ys = lines_read-append m config x (line_read m config x w line) xs ys
 
 -- ---- what the acceptances of a run keep
 
@@ -74,22 +74,22 @@ all-free m config issued calls l each = record {
 -- ---- a step of replica i
 
 -- the own part is done on both sides: the facts are these, and the state and the acts those
-pub record IsOwnPart {Value Op : Type 0} (m : Meaning Value Op) (config : Config) (issued : Cid → Option (LabelledCall Op)) (w : Facts Op) (v : RunState Value Op) (i : ℕ) (x : Option (SentMessage Op)) (own : List Outcome) (end : Ending Value Op) : Type 0 where
+pub record IsOwnPart {Value Op : Type 0} (m : Meaning Value Op) (config : Config) (issued : Cid → Option (LabelledCall Op)) (w : Facts Op) (v : RunState Value Op) (i : ℕ) (x : Handling Op) (own : List Outcome) (end : Ending Value Op) : Type 0 where
   pub lines : own ≡ act_lines (length v.posted) (Replica i) end.acts
-  pub shared : IsShared m config issued (lines_read x w own) v.fronts (v.posted ++ act_posts (Replica i) end.acts)
-  pub mid : IsMid m config (lines_read x w own) i end.state
-  pub others : (j : ℕ) → j ≢ i → j < config.replicas → IsTied m config (lines_read x w own) v.replicas j
+  pub shared : IsShared m config issued (lines_read m config x w own) v.fronts (v.posted ++ act_posts (Replica i) end.acts)
+  pub mid : IsMid m config (lines_read m config x w own) i end.state
+  pub others : (j : ℕ) → j ≢ i → j < config.replicas → IsTied m config (lines_read m config x w own) v.replicas j
 
 -- the whole step is the same on both sides
-pub record IsStep {Value Op : Type 0} (m : Meaning Value Op) (config : Config) (w : Facts Op) (x : Option (SentMessage Op)) (i : Option ℕ) (own : List Outcome) (outcomes : List Outcome) (run : RunState Value Op) : Type 0 where
-  pub lines : outcomes ≡ own ++ answers_at m (lines_read x w own) i
-  pub same : IsSame m config (step_ended i (lines_read x w (own ++ answers_at m (lines_read x w own) i))) run
+pub record IsStep {Value Op : Type 0} (m : Meaning Value Op) (config : Config) (w : Facts Op) (x : Handling Op) (i : Option ℕ) (own : List Outcome) (outcomes : List Outcome) (run : RunState Value Op) : Type 0 where
+  pub lines : outcomes ≡ own ++ answers_at m (lines_read m config x w own) i
+  pub same : IsSame m config (step_ended m config i (lines_read m config x w (own ++ answers_at m (lines_read m config x w own) i))) run
 
 module _ {Value Op : Type 0} (m : Meaning Value Op) (kind_of : Op → Kind) (lawful : Lawful m kind_of) (config : Config) (issued : Cid → Option (LabelledCall Op)) (w : Facts Op) (v : RunState Value Op) (i : ℕ) (here : i < config.replicas)
     (replica : ReplicaState Value Op) (there : slice_get v.replicas i ≡ Some replica) (setting : replica.config ≡ config) (number : replica.me ≡ i)
-    (x : Option (SentMessage Op)) (own : List Outcome) (end : Ending Value Op) (part : IsOwnPart m config issued w v i x own end) where
+    (x : Handling Op) (own : List Outcome) (end : Ending Value Op) (part : IsOwnPart m config issued w v i x own end) where
   abbrev w1 : Facts Op
-  w1 = lines_read x w own
+  w1 = lines_read m config x w own
 
   abbrev now : CausalState Value Op
   now = applied m end.state
@@ -112,7 +112,7 @@ module _ {Value Op : Type 0} (m : Meaning Value Op) (kind_of : Op → Kind) (law
       (length posted1) (next_number w1) next_is (w1.held i) now.held part.mid.held_are
 
   sent : HasSent m config w1 i part.shared.sound now (mid-test m config w1 i part.shared.sound end.state part.mid _ all_applied) all_applied.names all_applied.value_is issued v.fronts x
-      (lines_read x w1 (answers_at m w1 (Some i))) (posted1 ++ act_posts (Replica i) (held_acts m now now.held))
+      (lines_read m config x w1 (answers_at m w1 (Some i))) (posted1 ++ act_posts (Replica i) (held_acts m now now.held))
   sent = answers-sent m config w1 i part.shared.sound now (mid-test m config w1 i part.shared.sound end.state part.mid _ all_applied) all_applied.names all_applied.value_is issued v.fronts x
       (next_number w1) (w1.held i) now.held part.mid.held_are w1.messages posted1 next_is part.shared
 
@@ -182,6 +182,6 @@ module _ {Value Op : Type 0} (m : Meaning Value Op) (kind_of : Op → Kind) (law
         ∙ (λ k. sym part.lines k ++ act_lines (sym (length-append v.posted (act_posts (Replica i) end.acts)) k) (Replica i) (held_acts m now now.held))
         ∙ ap (λ (lines : List Outcome). own ++ lines) (sym answer_lines);
     same = subst (λ (facts : Facts Op). IsSame m config (end_read facts i) (record { replicas = replicas2; fronts = v.fronts; posted = v.posted ++ act_posts (Replica i) last.acts }))
-        (sym (lines_read-append x w own (answers_at m w1 (Some i)) ∙ sent.facts))
+        (sym (lines_read-append m config x w own (answers_at m w1 (Some i)) ∙ sent.facts))
         (record { issued = issued; shared = shared_end; replicas = tied_end });
   }

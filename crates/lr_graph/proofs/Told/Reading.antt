@@ -10,10 +10,12 @@ use Rattle.lr_base.specs.declared.events.Step.{Step}
 use Rattle.lr_base.specs.declared.names.Actor.{Actor}
 use Rattle.lr_base.specs.declared.names.Actor.TheVariants.{Client, Replica}
 use Rattle.lr_base.specs.declared.names.Spot.{Spot}
-use Rattle.lr_graph.specs.After.{accept_read, after, carried, delivery_of, event_read, got_read, hold_read, line_read, lines_read, step_ended, stepping, take_read}
+use Rattle.lr_graph.specs.After.{accept_read, after, carried, event_read, got_read, hold_read, line_read, lines_read, step_ended, stepping, take_read, Handling, handling, with_message}
 use Rattle.lr_graph.specs.Central.{facts_after}
 use Rattle.lr_graph.specs.Graph.{Carried, Facts, SentMessage, UpdateCopy, QueryCopy, DoneReply, AnswerReply, GossipOf, Blank}
 use Rattle.lr_graph.specs.Told.{bare}
+use Rattle.lr_base.specs.Meaning.{Meaning}
+use Rattle.lr_base.specs.declared.names.Config.{Config}
 
 module _ {Op : Type 0} where
   bare-carried : (w : Facts Op) (from : Actor) (what : Sent) → carried (bare w) from what ≡ carried w from what
@@ -64,75 +66,81 @@ module _ {Op : Type 0} where
   bare-got w (Client c) (GossipOf names) = refl
   bare-got w (Client c) Blank = refl
 
+  -- what comes changes them alike, where it came
+  bare-came : (w : Facts Op) (read : Facts Op → Actor → Carried Op → Facts Op)
+      → ((to : Actor) (what : Carried Op) → bare (read (bare w) to what) ≡ bare (read w to what))
+      → (o : Option (SentMessage Op)) → bare (with_message (bare w) o (read (bare w))) ≡ bare (with_message w o (read w))
+  bare-came w read alike None = refl
+  bare-came w read alike (Some x) = alike x.to x.what
+
+module _ {Value Op : Type 0} (m : Meaning Value Op) (config : Config) where
   -- a line changes them alike
-  bare-line : (x : Option (SentMessage Op)) (w : Facts Op) (line : Outcome) → bare (line_read x (bare w) line) ≡ bare (line_read x w line)
+  bare-line : (x : Handling Op) (w : Facts Op) (line : Outcome) → bare (line_read m config x (bare w) line) ≡ bare (line_read m config x w line)
   bare-line x w (Send number from to what) = ap (λ (load : Carried Op). bare (record w { messages = record { number = number; from = from; to = to; what = load } ∷ w.messages })) (bare-carried w from what)
-  bare-line None w (Accept spot cid) = refl
-  bare-line (Some x) w (Accept spot cid) = bare-accept w spot x.to x.what
-  bare-line None w (Hold cid) = refl
-  bare-line (Some x) w (Hold cid) = bare-hold w x.to x.what
-  bare-line None w (Take count) = refl
-  bare-line (Some x) w (Take count) = bare-take w x.to x.what
-  bare-line None w (Got cid) = refl
-  bare-line (Some x) w (Got cid) = bare-got w x.to x.what
+  bare-line x w (Accept spot cid) = bare-came w (λ v. accept_read v spot) (bare-accept w spot) x.came
+  bare-line x w (Hold cid) = bare-came w hold_read (bare-hold w) x.came
+  bare-line x w (Take count) = bare-came w take_read (bare-take w) x.came
+  bare-line x w (Got cid) = bare-came w got_read (bare-got w) x.came
   bare-line x w (Stale cid) = refl
   bare-line x w (NoMessage message) = refl
   bare-line x w (Refuse why) = refl
   bare-line x w (State line) = refl
 
   -- and so do several
-  bare-lines : (x : Option (SentMessage Op)) (w : Facts Op) (lines : List Outcome) → bare (lines_read x (bare w) lines) ≡ bare (lines_read x w lines)
+  bare-lines : (x : Handling Op) (w : Facts Op) (lines : List Outcome) → bare (lines_read m config x (bare w) lines) ≡ bare (lines_read m config x w lines)
   bare-lines x w [] = refl
   bare-lines x w (line ∷ lines) =
-      sym (bare-lines x (line_read x (bare w) line) lines) ∙ ap (λ v. bare (lines_read x v lines)) (bare-line x w line) ∙ bare-lines x (line_read x w line) lines
+      sym (bare-lines x (line_read m config x (bare w) line) lines) ∙ ap (λ v. bare (lines_read m config x v lines)) (bare-line x w line) ∙ bare-lines x (line_read m config x w line) lines
 
-  lines-append : (x : Option (SentMessage Op)) (w : Facts Op) (lines : List Outcome) (line : Outcome) → lines_read x w (lines ++ line ∷ []) ≡ line_read x (lines_read x w lines) line
+  lines-append : (x : Handling Op) (w : Facts Op) (lines : List Outcome) (line : Outcome) → lines_read m config x w (lines ++ line ∷ []) ≡ line_read m config x (lines_read m config x w lines) line
   lines-append x w [] line = refl
-  lines-append x w (first ∷ lines) line = lines-append x (line_read x w first) lines line
+  lines-append x w (first ∷ lines) line = lines-append x (line_read m config x w first) lines line
 
   -- one more line is read
-  pub line-more : (x : Option (SentMessage Op)) (w before new : Facts Op) (lines : List Outcome) (k : ℕ) (line : Outcome) → k < length lines → line ≡ get_or lines k line
-      → before ≡ bare (lines_read x w (take k lines)) → new ≡ bare (line_read x before line) → new ≡ bare (lines_read x w (take (k + 1) lines))
+  pub line-more : (x : Handling Op) (w before new : Facts Op) (lines : List Outcome) (k : ℕ) (line : Outcome) → k < length lines → line ≡ get_or lines k line
+      → before ≡ bare (lines_read m config x w (take k lines)) → new ≡ bare (line_read m config x before line) → new ≡ bare (lines_read m config x w (take (k + 1) lines))
   line-more x w before new lines k line within is so_far read =
       rw (add-one k, take-suc lines k line within, ← is, lines-append x w (take k lines) line)
-      (read ∙ ap (λ v. bare (line_read x v line)) so_far ∙ bare-line x (lines_read x w (take k lines)) line)
+      (read ∙ ap (λ v. bare (line_read m config x v line)) so_far ∙ bare-line x (lines_read m config x w (take k lines)) line)
 
-  bare-ended : (o : Option ℕ) (w : Facts Op) → bare (step_ended o w) ≡ bare w
+  bare-ended : (o : Option ℕ) (w : Facts Op) → bare (step_ended m config o w) ≡ bare w
   bare-ended None w = refl
   bare-ended (Some i) w = refl
 
+module _ {Op : Type 0} where
   bare-event : (w : Facts Op) (event : Event Op) → bare (event_read (bare w) event) ≡ bare (event_read w event)
   bare-event w (Call client replica reading op) = refl
   bare-event w (Deliver message) = refl
   bare-event w (GossipEvent from to) = refl
   bare-event w (Show replica) = refl
 
-  bare-delivery : (w : Facts Op) (event : Event Op) → delivery_of (bare w) event ≡ delivery_of w event
-  bare-delivery w (Call client replica reading op) = refl
-  bare-delivery w (Deliver message) = refl
-  bare-delivery w (GossipEvent from to) = refl
-  bare-delivery w (Show replica) = refl
+  bare-handling : (w : Facts Op) (event : Event Op) → handling (bare w) event ≡ handling w event
+  bare-handling w (Call client replica reading op) = refl
+  bare-handling w (Deliver message) = refl
+  bare-handling w (GossipEvent from to) = refl
+  bare-handling w (Show replica) = refl
 
+module _ {Value Op : Type 0} (m : Meaning Value Op) (config : Config) where
   -- a step changes them by its event and its lines
-  pub bare-step : (w : Facts Op) (step : Step Op) → bare (after w step) ≡ bare (lines_read (delivery_of w step.event) (event_read w step.event) step.outcomes)
-  bare-step w step = bare-ended (stepping w step.event) (lines_read (delivery_of w step.event) (event_read w step.event) step.outcomes)
+  pub bare-step : (w : Facts Op) (step : Step Op) → bare (after m config w step) ≡ bare (lines_read m config (handling w step.event) (event_read w step.event) step.outcomes)
+  bare-step w step = bare-ended m config (stepping w step.event) (lines_read m config (handling w step.event) (event_read w step.event) step.outcomes)
 
-  bare-after : (w : Facts Op) (step : Step Op) → bare (after (bare w) step) ≡ bare (after w step)
+  bare-after : (w : Facts Op) (step : Step Op) → bare (after m config (bare w) step) ≡ bare (after m config w step)
   bare-after w step =
       bare-step (bare w) step
-      ∙ ap (λ x. bare (lines_read x (event_read (bare w) step.event) step.outcomes)) (bare-delivery w step.event)
-      ∙ sym (bare-lines (delivery_of w step.event) (event_read (bare w) step.event) step.outcomes)
-      ∙ ap (λ v. bare (lines_read (delivery_of w step.event) v step.outcomes)) (bare-event w step.event)
-      ∙ bare-lines (delivery_of w step.event) (event_read w step.event) step.outcomes
+      ∙ ap (λ x. bare (lines_read m config x (event_read (bare w) step.event) step.outcomes)) (bare-handling w step.event)
+      ∙ sym (bare-lines m config (handling w step.event) (event_read (bare w) step.event) step.outcomes)
+      ∙ ap (λ v. bare (lines_read m config (handling w step.event) v step.outcomes)) (bare-event w step.event)
+      ∙ bare-lines m config (handling w step.event) (event_read w step.event) step.outcomes
       ∙ sym (bare-step w step)
 
-  facts-append : (w : Facts Op) (steps : List (Step Op)) (step : Step Op) → facts_after w (steps ++ step ∷ []) ≡ after (facts_after w steps) step
+  facts-append : (w : Facts Op) (steps : List (Step Op)) (step : Step Op) → facts_after m config w (steps ++ step ∷ []) ≡ after m config (facts_after m config w steps) step
   facts-append w [] step = refl
-  facts-append w (first ∷ steps) step = facts-append (after w first) steps step
+  facts-append w (first ∷ steps) step = facts-append (after m config w first) steps step
 
   -- one more step is read
   pub step-more : (w before new : Facts Op) (steps : List (Step Op)) (k : ℕ) (step : Step Op) → k < length steps → step ≡ get_or steps k step
-      → before ≡ bare (facts_after w (take k steps)) → new ≡ bare (after before step) → new ≡ bare (facts_after w (take (k + 1) steps))
+      → before ≡ bare (facts_after m config w (take k steps)) → new ≡ bare (after m config before step) → new ≡ bare (facts_after m config w (take (k + 1) steps))
   step-more w before new steps k step within is so_far read =
       rw (add-one k, take-suc steps k step within, ← is, facts-append w (take k steps) step)
-      (read ∙ ap (λ v. bare (after v step)) so_far ∙ bare-after (facts_after w (take k steps)) step)
+      (read ∙ ap (λ v. bare (after m config v step)) so_far ∙ bare-after (facts_after m config w (take k steps)) step)

@@ -1,9 +1,8 @@
 //! The facts of a history so far: what they say, and how they change.
-ghost use Rattle.std.specs.Prelude.{◌≡◌, None, IfOk, OnOk};
+ghost use Rattle.std.specs.Prelude.{◌≡◌, ◌∷◌, IfOk, OnOk};
 ghost use Rattle.std.specs.Option.{option_map};
-ghost use Rattle.lr_base.specs.declared.events.Outcome.TheVariants.{Send};
 ghost use Rattle.lr_base.specs.declared.names.Actor.TheVariants.{Replica};
-ghost use Rattle.lr_graph.specs.After.{accepts, carried, copy_of, line_read};
+ghost use Rattle.lr_graph.specs.After.{accepts, carried, copy_of};
 ghost use Rattle.lr_graph.specs.After.{ready_at, received_at, take_read, takes_reply};
 ghost use Rattle.lr_graph.specs.Graph.{first_facts, ready, GossipOf, QueryCopy, UpdateCopy};
 ghost use Rattle.lr_graph.specs.Sets.{put_at};
@@ -150,7 +149,9 @@ impl<O: Operation> Gathered<O> {
         to: Actor,
         what: &Sent,
     ) -> Result<(), NoMemory>
-        ensures { OnOk result (told self.new ≡ line_read None (told self.old) (Send number from to what.now)) }
+        ensures { OnOk result (told self.new ≡ record (told self.old) { messages = record {
+            number = number; from = from; to = to; what = carried (told self.old) from what.now
+        } ∷ (told self.old).messages }) }
     {
         let load = self.carried(alloc, from, what)?;
         self.messages.put(SentCopy {

@@ -41,6 +41,13 @@ pub struct SentCopy<O> {
     pub load: Load<O>,
 }
 
+/// Whose step it is, and the message that came in it.
+#[derive(Drop)]
+pub struct Handled<O> {
+    pub actor: Option<Actor>,
+    pub came: Option<SentCopy<O>>,
+}
+
 /// A front end: what its label names, how many calls it made, its clock and its open call.
 #[derive(Drop)]
 pub struct FrontNow<O> {

@@ -1,16 +1,16 @@
 //! Reading a history: how its facts change by each event, and by each line that is printed of it.
 ghost use Rattle.std.specs.Prelude.{◌≡◌, ◌==◌, Some, None, IfOk, OnOk, find};
 ghost use Rattle.std.specs.Option.{option_copied, option_map};
-ghost use Rattle.lr_graph.specs.After.{after, delivery_of, event_read, line_read, lines_read};
-ghost use Rattle.lr_graph.specs.After.{accept_read, got_read, take_read};
+ghost use Rattle.lr_graph.specs.After.{after, delivery_of, event_read, handling, line_read, lines_read};
+ghost use Rattle.lr_graph.specs.After.{accept_read, acting, got_read, receiver, take_read};
 ghost use Rattle.lr_graph.specs.Central.{facts_after};
-ghost use Rattle.lr_graph.specs.Graph.{first_facts};
-ghost use Rattle.lr_graph.specs.Told.{bare, load_of, sent_message_of, told};
+ghost use Rattle.lr_graph.specs.Graph.{Facts, first_facts};
+ghost use Rattle.lr_graph.specs.Told.{bare, handling_of, load_of, sent_message_of, told};
 
 use crate::facts::fronts::after_call;
-use crate::facts::items::{Gathered, Load, SentCopy};
-use lr_base::lr_service::Operation;
-use lr_base::{Actor, Event, NoMemory, Outcome, Spot, Step};
+use crate::facts::items::{Gathered, Handled, Load, SentCopy};
+use lr_base::lr_service::{Operation, Service};
+use lr_base::{Actor, Config, Event, NoMemory, Outcome, Spot, Step};
 use std::alloc::Global;
 
 impl<O: Operation> Gathered<O> {
@@ -56,6 +56,15 @@ impl<O: Operation> Gathered<O> {
             } => Ok(None),
             Event::Show { replica: _replica } => Ok(None),
         }
+    }
+
+    // Whose step an event is, and the message that it delivers.
+    fn handling_of(&self, event: &Event<O>) -> Result<Handled<O>, NoMemory>
+        ensures { IfOk result (λ x. handling_of x ≡ handling (told self.now) event.now) }
+    {
+        let came = self.delivery_of(event)?;
+        let actor = actor_of(event, &came);
+        Ok(Handled { actor, came })
     }
 
     // `accept`: a replica that an update came to accepts its call.
@@ -126,74 +135,87 @@ impl<O: Operation> Gathered<O> {
             Load::Nothing => Ok(()),
         }
     }
+}
 
-    // A line that says what became of a message that came.
-    fn read_of_message(
-        &mut self,
-        alloc: Global,
-        came: &SentCopy<O>,
-        line: &Outcome,
-    ) -> Result<(), NoMemory>
-        ensures { OnOk result (told self.new
-            ≡ bare (line_read (Some (sent_message_of came.now)) (told self.old) line.now)) }
-    {
-        match line {
-            Outcome::Send {
-                number,
-                from,
-                to,
-                what,
-            } => self.send(alloc, *number, *from, *to, what),
-            Outcome::Accept { spot, cid: _cid } => self.read_accept(alloc, *spot, came),
-            Outcome::Take { count: _count } => self.read_take(alloc, came),
-            Outcome::Got { cid: _cid } => self.read_got(alloc, came),
-            Outcome::Hold { cid: _cid } => Ok(()),
-            Outcome::Stale { cid: _cid } => Ok(()),
-            Outcome::NoMessage { message: _message } => Ok(()),
-            Outcome::Refuse { why: _why } => Ok(()),
-            Outcome::State { line: _line } => Ok(()),
-        }
+// A line that says what became of a message that came.
+fn read_of_message<S: Service>(
+    facts: &mut Gathered<S::Op>,
+    alloc: Global,
+    config: Config,
+    actor: Option<Actor>,
+    came: &SentCopy<S::Op>,
+    line: &Outcome,
+) -> Result<(), NoMemory>
+    ensures { OnOk result (told facts.new
+        ≡ bare (line_read S.meaning config (record { actor = actor; came = Some (sent_message_of came.now) })
+        (told facts.old) line.now)) }
+{
+    match line {
+        Outcome::Send {
+            number,
+            from,
+            to,
+            what,
+        } => facts.send(alloc, *number, *from, *to, what),
+        Outcome::Accept { spot, cid: _cid } => facts.read_accept(alloc, *spot, came),
+        Outcome::Take { count: _count } => facts.read_take(alloc, came),
+        Outcome::Got { cid: _cid } => facts.read_got(alloc, came),
+        Outcome::Hold { cid: _cid } => Ok(()),
+        Outcome::Stale { cid: _cid } => Ok(()),
+        Outcome::NoMessage { message: _message } => Ok(()),
+        Outcome::Refuse { why: _why } => Ok(()),
+        Outcome::State { line: _line } => Ok(()),
     }
+}
 
-    // A line where no message came.
-    fn read_alone(&mut self, alloc: Global, line: &Outcome) -> Result<(), NoMemory>
-        ensures { OnOk result (told self.new ≡ bare (line_read None (told self.old) line.now)) }
-    {
-        match line {
-            Outcome::Send {
-                number,
-                from,
-                to,
-                what,
-            } => self.send(alloc, *number, *from, *to, what),
-            Outcome::Accept {
-                spot: _spot,
-                cid: _cid,
-            } => Ok(()),
-            Outcome::Take { count: _count } => Ok(()),
-            Outcome::Got { cid: _cid } => Ok(()),
-            Outcome::Hold { cid: _cid } => Ok(()),
-            Outcome::Stale { cid: _cid } => Ok(()),
-            Outcome::NoMessage { message: _message } => Ok(()),
-            Outcome::Refuse { why: _why } => Ok(()),
-            Outcome::State { line: _line } => Ok(()),
-        }
+// A line where no message came.
+fn read_alone<S: Service>(
+    facts: &mut Gathered<S::Op>,
+    alloc: Global,
+    config: Config,
+    actor: Option<Actor>,
+    line: &Outcome,
+) -> Result<(), NoMemory>
+    ensures { OnOk result (told facts.new
+        ≡ bare (line_read S.meaning config (record { actor = actor; came = None }) (told facts.old) line.now)) }
+{
+    match line {
+        Outcome::Send {
+            number,
+            from,
+            to,
+            what,
+        } => facts.send(alloc, *number, *from, *to, what),
+        Outcome::Accept {
+            spot: _spot,
+            cid: _cid,
+        } => Ok(()),
+        Outcome::Take { count: _count } => Ok(()),
+        Outcome::Got { cid: _cid } => Ok(()),
+        Outcome::Hold { cid: _cid } => Ok(()),
+        Outcome::Stale { cid: _cid } => Ok(()),
+        Outcome::NoMessage { message: _message } => Ok(()),
+        Outcome::Refuse { why: _why } => Ok(()),
+        Outcome::State { line: _line } => Ok(()),
     }
+}
 
-    // A printed line.
-    fn read_line(
-        &mut self,
-        alloc: Global,
-        came: &Option<SentCopy<O>>,
-        line: &Outcome,
-    ) -> Result<(), NoMemory>
-        ensures { OnOk result (told self.new
-            ≡ bare (line_read (option_map sent_message_of came.now) (told self.old) line.now)) }
-    {
-        match came {
-            Some(message) => self.read_of_message(alloc, message, line),
-            None => self.read_alone(alloc, line),
+// A printed line.
+fn read_line<S: Service>(
+    facts: &mut Gathered<S::Op>,
+    alloc: Global,
+    config: Config,
+    handled: &Handled<S::Op>,
+    line: &Outcome,
+) -> Result<(), NoMemory>
+    ensures { OnOk result (told facts.new
+        ≡ bare (line_read S.meaning config (handling_of handled.now) (told facts.old) line.now)) }
+{
+    match &handled.came {
+        Some(message) => {
+            read_of_message::<S>(facts, alloc, config, handled.actor, message, line)
         }
+        None => read_alone::<S>(facts, alloc, config, handled.actor, line),
     }
 }
 
@@ -220,42 +242,76 @@ fn copy_numbered<O: Operation>(
     }
 }
 
+// The actor whose step an event is, with the message that it delivers.
+fn actor_of<O>(event: &Event<O>, came: &Option<SentCopy<O>>) -> Option<Actor>
+    ensures { (w : Facts O) → option_map sent_message_of came.now ≡ delivery_of w event.now
+        → result ≡ acting w event.now }
+{
+    match event {
+        Event::Call {
+            client,
+            replica: _replica,
+            reading: _reading,
+            op: _op,
+        } => Some(Actor::Client(*client)),
+        Event::Deliver { message: _message } => receiver_of(came),
+        Event::Gossip { from, to: _to } => Some(Actor::Replica(*from)),
+        Event::Show { replica: _replica } => None,
+    }
+}
+
+// Whom a message comes to, if one came.
+fn receiver_of<O>(came: &Option<SentCopy<O>>) -> Option<Actor>
+    ensures { result ≡ receiver (option_map sent_message_of came.now) }
+{
+    match came {
+        Some(message) => Some(message.to),
+        None => None,
+    }
+}
+
 // The lines of one event, in order.
-fn read_lines<O: Operation>(
-    facts: &mut Gathered<O>,
+fn read_lines<S: Service>(
+    facts: &mut Gathered<S::Op>,
     alloc: Global,
-    came: &Option<SentCopy<O>>,
+    config: Config,
+    handled: &Handled<S::Op>,
     lines: &[Outcome],
 ) -> Result<(), NoMemory>
     ensures { OnOk result (told facts.new
-        ≡ bare (lines_read (option_map sent_message_of came.now) (told facts.old) lines.now)) }
+        ≡ bare (lines_read S.meaning config (handling_of handled.now) (told facts.old) lines.now)) }
 {
     for line in lines {
-        facts.read_line(alloc, came, line)?;
+        read_line::<S>(facts, alloc, config, handled, line)?;
     }
     Ok(())
 }
 
 // One step: its event, and then its lines.
-fn read_step<O: Operation>(
-    facts: &mut Gathered<O>,
+fn read_step<S: Service>(
+    facts: &mut Gathered<S::Op>,
     alloc: Global,
-    step: &Step<O>,
+    config: Config,
+    step: &Step<S::Op>,
 ) -> Result<(), NoMemory>
-    ensures { OnOk result (told facts.new ≡ bare (after (told facts.old) step.now)) }
+    ensures { OnOk result (told facts.new ≡ bare (after S.meaning config (told facts.old) step.now)) }
 {
-    let came = facts.delivery_of(&step.event)?;
+    let handled = facts.handling_of(&step.event)?;
     facts.read_event(alloc, &step.event)?;
-    read_lines(facts, alloc, &came, step.outcomes.as_slice())
+    read_lines::<S>(facts, alloc, config, &handled, step.outcomes.as_slice())
 }
 
 /// The facts after a history.
-pub fn facts_of<O: Operation>(alloc: Global, history: &[Step<O>]) -> Result<Gathered<O>, NoMemory>
-    ensures { IfOk result (λ facts. told facts ≡ bare (facts_after first_facts history.now)) }
+pub fn facts_of<S: Service>(
+    alloc: Global,
+    config: Config,
+    history: &[Step<S::Op>],
+) -> Result<Gathered<S::Op>, NoMemory>
+    ensures { IfOk result (λ facts. told facts ≡ bare (facts_after S.meaning config first_facts history.now)) }
 {
     let mut facts = Gathered::new(alloc);
     for step in history {
-        read_step(&mut facts, alloc, step)?;
+        read_step::<S>(&mut facts, alloc, config, step)?;
     }
     Ok(facts)
 }

@@ -6,4 +6,4 @@ use Rattle.lr_graph.proofs.laws.stamps_stand_for_sets.Goals as goal
 
 pub returns : goal.returns
 returns g c config steps run made =
-    same-central g.S.Service.meaning config (facts_after first_facts steps) run (same-after g.S.Service.meaning _ g.met.S.Service.lawful config steps run made)
+    same-central g.S.Service.meaning config (facts_after g.S.Service.meaning config first_facts steps) run (same-after g.S.Service.meaning _ g.met.S.Service.lawful config steps run made)

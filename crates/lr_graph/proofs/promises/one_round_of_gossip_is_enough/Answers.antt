@@ -16,7 +16,7 @@ returns-clause-held g c config before round fits legal whole quiet i here =
 
 pub returns-clause-value : goal.returns-clause-value
 returns-clause-value g c config before round fits legal whole quiet i j here there =
-    let w = facts_of (before ++ round) in
+    let w = facts_of g.S.Service.meaning config (before ++ round) in
     let all = all-received g.S.Service.meaning _ g.met.S.Service.lawful config before round fits legal whole quiet in
     let alike = each-from _ w.accepted (λ a member.
     each-at _ a w.accepted (all i here) member ∙ sym (each-at _ a w.accepted (all j there) member)) in

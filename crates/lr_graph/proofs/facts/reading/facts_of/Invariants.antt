@@ -6,4 +6,4 @@ use Rattle.lr_graph.proofs.facts.reading.facts_of.Given as goal
 
 -- the steps so far are read
 abbrev pub invariant-loop-step : goal.invariant-loop-step
-invariant-loop-step g l = told l.facts ≡ bare (facts_after first_facts (take l.step-index l.history))
+invariant-loop-step g l = told l.facts ≡ bare (facts_after g.S.Service.meaning l.config first_facts (take l.step-index l.history))

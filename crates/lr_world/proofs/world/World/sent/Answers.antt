@@ -9,4 +9,4 @@ pub returns : goal.returns
 returns g c =
     let it = c.self.inside in
     c.sent.ensures ∙ sent-of g.S.Service.meaning (setup_of it.run) c.stamps_stand_for_sets.ensures it.steps (run_of it.run) it.made
-    ∙ ap (λ h. length (facts_after first_facts h.steps).messages) c.self.view_is
+    ∙ ap (λ h. length (facts_after g.S.Service.meaning h.config first_facts h.steps).messages) c.self.view_is
