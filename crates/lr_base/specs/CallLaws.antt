@@ -2,11 +2,11 @@
 use Rattle.std.proofs.Common.{◌≡◌, Bool, true, false, cond, ◌||◌, List, [], ◌∷◌, map, refl, sym, ap, ◌∙◌}
 use Rattle.std.proofs.Common.{Some, None, is_some, true≢false, not, subst}
 use Rattle.std.specs.List.{AllByRecursion}
-use Rattle.lr_base.specs.Ascending.{cid_before, insert_cid}
+use Rattle.lr_base.specs.Ascending.{cid_before, insert_cid, same_cid}
 use Rattle.lr_base.specs.Calls.{AreByCall, enter_call, enter_calls, up_to_call}
 use Rattle.lr_base.specs.InsertionLaws.{ascends-inserted, each-map}
 use Rattle.lr_base.specs.NameLaws.{cid-apart, cid-neither, cid-other, same_cid-is, same_cid-self, cid-trans}
-use Rattle.lr_base.specs.Rules.{known_of, same_cid}
+use Rattle.lr_base.specs.Rules.{known_of}
 use Rattle.lr_base.specs.declared.messages.Known.{Known}
 use Rattle.lr_base.specs.declared.names.Cid.{Cid}
 

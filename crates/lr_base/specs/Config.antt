@@ -1,9 +1,10 @@
--- What a run is set up with.
+-- To be believed: what a run is set up with.
 use Rattle.std.specs.Prelude.{◌≤◌}
 use Rattle.lr_base.specs.Limits.{most_clients, most_replicas}
 use Rattle.lr_base.specs.declared.names.Config.{Config}
 
 -- there are some replicas and some clients, and no more than there may be
+-- for example: 1 and 64; not 10 and 1
 pub record IsValid (config : Config) : Type 0 where
   pub some_replica : 1 ≤ config.replicas
   pub most_replicas : config.replicas ≤ most_replicas

@@ -1,4 +1,4 @@
--- Which events are those of a run.
+-- To be believed: which events are those of a run.
 use Rattle.std.specs.Prelude.{◌≡◌, ◌<◌, ◌≢◌, true}
 use Rattle.lr_base.specs.Kinds.{has_rules}
 use Rattle.lr_base.specs.Meaning.{Meaning}
@@ -8,6 +8,7 @@ use Rattle.lr_base.specs.declared.names.Config.{Config}
 
 -- an event names a client and replicas that there are, gossip names two of them,
 -- and runs have rules for the kind of what is called
+-- for example: `call 0 0 5 add x 3`, not `show 1` with one replica, nor `gossip 0 0`
 abbrev pub IsEventOf : {Value Op : Type 0} → Meaning Value Op → Config → Event Op → Type 0
 IsEventOf m config (Call client replica reading op) =
     (client < config.clients) × (replica < config.replicas) × (has_rules (m.kind op) ≡ true)

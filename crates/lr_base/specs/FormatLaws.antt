@@ -1,4 +1,8 @@
 -- Formats that are put together of exact ones are exact.
+-- Of exact formats those that are put together are exact: `leading-exact`, `both-exact`, `renamed-exact` (where of
+-- written values the name leads back), `only_where-exact`, `known_test-exact`, `either-exact`, `optional-exact`,
+-- `keyed-exact`, `repeated-exact` and `listed-exact` (facts with their proofs). `spelled-in` and `one_spelling-in` are
+-- of an exact format the two laws of spellings.
 use Rattle.std.proofs.Common.{◌≡◌, ◌<◌, ◌^◌, ◌==◌, ℕ, Bool, true, false, cond, ◌&&◌, not, [], ◌∷◌, ◌++◌}
 use Rattle.std.proofs.Common.{length, refl, sym, ◌∙◌, ap, arith, length-append}
 use Rattle.std.specs.Prelude.{Option, Some, None, ◌⊎◌, flat_map}

@@ -15,10 +15,12 @@ pub record Format (V : Type 0) : Type 0 where
   pub field : Bytes → Reading V
 
 -- what is written in a format is read back, and the other way round
+-- for example: `number_format`
 abbrev pub IsExactFormat : {A : Type 0} → Format A → Type 0
 IsExactFormat f = IsExact f.is_value f.written f.field
 
 -- numbers that so many bytes have room for
+-- for example: `0000000000000003` of 3
 abbrev pub number_of : ℕ → Format ℕ
 number_of width = record {
   is_value = λ number. nat_lt number (256 ^ width);
@@ -35,6 +37,7 @@ abbrev pub count_format : Format ℕ
 count_format = record { is_value = λ count. nat_lt count (2 ^ 64); written = count_bytes; field = count_field }
 
 -- a value, and behind it one whose format it decides
+-- for example: a tag, and then what it stands for
 abbrev pub leading : {A B : Type 0} → Format A → (A → Format B) → Format (A × B)
 leading f g = record {
   is_value = λ parts. f.is_value parts.0 && (g parts.0).is_value parts.1;
@@ -44,10 +47,12 @@ leading f g = record {
 }
 
 -- one value behind another
+-- for example: owners, and then notes
 abbrev pub both : {A B : Type 0} → Format A → Format B → Format (A × B)
 both f g = leading f (λ first. g)
 
 -- the same values under another name
+-- for example: a pair of tables as a record
 abbrev pub renamed : {A B : Type 0} → (A → B) → (B → A) → Format A → Format B
 renamed to from f = record {
   is_value = λ value. f.is_value (from value);
@@ -56,6 +61,7 @@ renamed to from f = record {
 }
 
 -- only the values that pass a test: another is wrong at its first byte
+-- for example: numbers from 1; 0 is `Range`
 abbrev pub only_where : {A : Type 0} → (A → Bool) → BadWhat → Format A → Format A
 only_where test what f = record {
   is_value = λ value. f.is_value value && test value;
@@ -92,16 +98,19 @@ either first f g = record {
 }
 
 -- whether a part may stand there
+-- for example: `01 03`
 abbrev pub is_optional : {A : Type 0} → Bool → Format A → Option A → Bool
 is_optional may f None = true
 is_optional may f (Some value) = may && f.is_value value
 
 -- a byte 0, or 1 and then the part
+-- for example: `00`
 abbrev pub optional_bytes : {A : Type 0} → Format A → Option A → Bytes
 optional_bytes f None = big_bytes 1 0
 optional_bytes f (Some value) = big_bytes 1 1 ++ f.written value
 
 -- a part that may be left out, and that stands only where it may
+-- for example: `02` is `Range`
 abbrev pub optional : {A : Type 0} → Bool → Format A → Format (Option A)
 optional may f = record {
   is_value = is_optional may f;
@@ -113,6 +122,7 @@ optional may f = record {
 }
 
 -- an element of a list: a key, which may come behind the element before it or is out of order, and then the rest
+-- for example: a name, and its value
 abbrev pub keyed : {K V : Type 0} → (K → Bool) → Format K → (K → Format V) → Format (K × V)
 keyed may key rest = leading (only_where may Order key) rest
 

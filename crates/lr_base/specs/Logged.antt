@@ -11,11 +11,13 @@ use Rattle.lr_base.specs.Kinds.{IsUpdate}
 use Rattle.lr_base.specs.Rules.{is_new, known_of}
 
 -- an update whose stamp has these many parts, one of them for its place
+-- for example: 2 parts, place 0
 pub record Fits {Op : Type 0} (parts : ℕ) (u : LogUpdate Op) : Type 0 where
   pub prev : length u.prev ≡ parts
   pub place : u.spot.place < parts
 
 -- a logged update that can be applied: its stamp has these many parts, one of them for its place
+-- for example: `add x 3` at `0:1`
 pub record IsLogged {Op : Type 0} (kind_of : Op → Kind) (parts : ℕ) (u : LogUpdate Op) : Type 0 where
   pub prev : length u.prev ≡ parts
   pub place : u.spot.place < parts
@@ -34,6 +36,7 @@ abbrev pub AllKnown : ℕ → List (Cid × Known) → Type 0
 AllKnown parts calls = (cid : Cid) → ForSome (known_of calls cid) (λ known. length known.stamp ≡ parts)
 
 -- no update of the list is new where so many items were received of each place
+-- for example: `0:1` at `[1, 0]`, not `0:2`
 abbrev pub AllReceived : {Op : Type 0} → List ℕ → List (LogUpdate Op) → Type 0
 AllReceived rep_ts updates = (k : ℕ) → ForSome (slice_get updates k) (λ u. is_new rep_ts u.spot ≡ false)
 

@@ -1,4 +1,4 @@
--- What a service's operations mean, and the law that every service keeps.
+-- To be believed: what a service's operations mean, and the law that every service keeps.
 use Rattle.std.specs.Prelude.{◌≡◌, ◌<◌, ◌≤◌, ◌^◌, Bool, true, false, ◌&&◌, nat_le, length, Option, Some}
 use Rattle.std.specs.List.{list_all}
 use Rattle.lr_base.specs.Bytes.{Bytes, Decoded, Good, are_bytes}
@@ -7,6 +7,7 @@ use Rattle.lr_base.specs.Kinds.{IsUpdate, are_ordered}
 
 -- a value and the operations on it: where it starts, what each operation does and answers, how an operation is
 -- written, and the operation that is written so, if there is one
+-- for example: the tally's, below
 pub record Meaning (Value Op : Type 0) : Type 0 where
   pub start : Value
   pub kind : Op → Kind
@@ -23,11 +24,13 @@ pub record Encoding (Value : Type 0) : Type 0 where
   pub decoded : Bytes → Decoded Value
 
 -- each byte is a printable one, from the space to the tilde
+-- for example: true of `add x 3`, false of a tabulator
 abbrev pub is_printable : Bytes → Bool
 is_printable bytes = list_all (λ byte. nat_le 32 byte && nat_le byte 126) bytes
 
 -- two updates commute unless one is immediate or both are forced; each operation has a text, which fits a line and
 -- is read as it alone; and each value that operations make has one spelling, and printable answers
+-- for example: two additions give one sum in either order
 pub record Lawful {Value Op : Type 0} (m : Meaning Value Op) (e : Encoding Value) (kind_of : Op → Kind) : Type 0 where
   pub commute : (v : Value) (a b : Op) → IsUpdate (m.kind a) → IsUpdate (m.kind b)
       → are_ordered (m.kind a) (m.kind b) ≡ false → m.apply (m.apply v a) b ≡ m.apply (m.apply v b) a

@@ -1,8 +1,12 @@
 -- The order of spots, and of calls.
+-- The order of spots and of calls (`before-holds`, `before-shown`, `before-trans`, `before-apart`, `before-once`,
+-- `behind-shown`, `neither-before`; `cid-trans`, `cid-apart`, `cid-neither`, `cid-other`; `same_cid-is`,
+-- `same_cid-sym`, `same_cid-self`). What is known by a table in which a call was entered (`known_of-entered`,
+-- `some-entered`, `some-entered_all`), that it stays in order (`AreByCall-entered`), which calls it has
+-- (`cids-entered`), and that two tables by which the same is known of each call are one (`same-tables`).
 use Rattle.std.proofs.Common.{◌≡◌, ◌≢◌, ◌<◌, ◌⊎◌, true, false, ap, arith, refl}
 use Rattle.std.proofs.lemmas.Bool.Decides.{nat_tests}
-use Rattle.lr_base.specs.Ascending.{cid_before}
-use Rattle.lr_base.specs.Rules.{is_before, same_cid}
+use Rattle.lr_base.specs.Ascending.{cid_before, is_before, same_cid}
 use Rattle.lr_base.specs.declared.names.Cid.{Cid}
 use Rattle.lr_base.specs.declared.names.Spot.{Spot}
 

@@ -1,4 +1,4 @@
--- Numbers as they are written: decimal, with no leading zero.
+-- To be believed: numbers as they are written: decimal, with no leading zero.
 use Rattle.std.specs.Prelude.{ℕ, ◌^◌, Bool, ◌&&◌, nat_lt, if◌then◌else◌, Option, Some, None}
 use Rattle.std.specs.Fmt.{decimal}
 use Rattle.std.specs.Str.{bytes_eq}

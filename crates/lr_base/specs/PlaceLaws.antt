@@ -4,8 +4,8 @@ use Rattle.std.proofs.Common.{◌≢◌, filter, refl, sym, ap, ◌∙◌, arith
 use Rattle.std.proofs.Common.{ltb-true, ne_eqb}
 use Rattle.std.specs.Prelude.{◌==◌, ◌||◌, ◌&&◌, nat_lt}
 use Rattle.std.specs.List.{AllByRecursion}
+use Rattle.lr_base.specs.Ascending.{is_before}
 use Rattle.lr_base.specs.Places.{AreInOrder, AreWithin, items_at, up_to_place}
-use Rattle.lr_base.specs.Rules.{is_before}
 use Rattle.lr_base.specs.declared.names.Spot.{Spot}
 
 -- a spot that comes behind another isn't of a lower place

@@ -8,12 +8,14 @@ use Rattle.lr_base.specs.declared.events.StateLine.{StateLine}
 use Rattle.lr_base.specs.declared.names.Config.{Config}
 
 -- what the run is set up with, which replica it is, and its state
+-- for example: replica 0, `first_state`
 pub record ReplicaState (Value Op : Type 0) : Type 0 where
   pub config : Config
   pub me : ℕ
   pub causal : CausalState Value Op
 
 -- a replica at which nothing has happened
+-- for example: `first_state` with two parts
 abbrev pub first_replica : {Value Op : Type 0} → Meaning Value Op → Config → ℕ → ReplicaState Value Op
 first_replica m config me = record {
   config = config;
@@ -22,6 +24,7 @@ first_replica m config me = record {
 }
 
 -- a replica of this run, at its place
+-- for example: replica 0 at place 0
 pub record IsReplica {Value Op : Type 0} (config : Config) (place : ℕ) (replica : ReplicaState Value Op) : Type 0 where
   pub setting : replica.config ≡ config
   pub number : replica.me ≡ place
@@ -31,6 +34,7 @@ abbrev pub AllReplicas : {Value Op : Type 0} → Config → List (ReplicaState V
 AllReplicas config replicas = (k : ℕ) → ForSome (slice_get replicas k) (IsReplica config k)
 
 -- what is printed of a replica's state
+-- for example: `state r0 view 0 clock 0 received 1.0 log - acks - calls 0.1 held - frozen -`
 abbrev pub state_line_of : {Value Op : Type 0} → ReplicaState Value Op → StateLine
 state_line_of replica = record {
   replica = replica.me;

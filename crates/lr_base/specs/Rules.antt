@@ -1,7 +1,9 @@
 -- The causal rules of a replica, as functions of its state.
+-- What one replica does with causal operations, as functions of its state.
 use Rattle.std.specs.Prelude.{ℕ, ◌+◌, find, filter, get_or, length, set, not, zero, suc, replicate, Bool, ◌&&◌, ◌||◌}
 use Rattle.std.specs.Prelude.{◌==◌, nat_lt, if◌then◌else◌, List, [], ◌∷◌, ◌++◌, Option, Some, None, is_some}
 use Rattle.std.specs.Option.{option_map, option_map_or}
+use Rattle.lr_base.specs.Ascending.{is_before, same_cid}
 use Rattle.lr_base.specs.Bytes.{Bytes}
 use Rattle.lr_base.specs.Calls.{enter_call}
 use Rattle.lr_base.specs.declared.names.Cid.{Cid}
@@ -17,20 +19,14 @@ use Rattle.lr_base.specs.Insertion.{insert_all_by, insert_by}
 use Rattle.lr_base.specs.Meaning.{Meaning}
 use Rattle.lr_base.specs.Stamps.{Stamp, part, join, stamp_le, set_part}
 
--- whether two names are those of one call
-abbrev pub same_cid : Cid → Cid → Bool
-same_cid a b = (a.client == b.client) && (a.seq == b.seq)
-
--- whether the first spot comes before the second in the order of places and then numbers
-abbrev pub is_before : Spot → Spot → Bool
-is_before a b = nat_lt a.place b.place || ((a.place == b.place) && nat_lt a.number b.number)
-
 -- what is known of a call in a table of executed calls
+-- for example: nothing of `0.9` in an empty table
 abbrev pub known_of : List (Cid × Known) → Cid → Option Known
 known_of [] cid = None
 known_of (e ∷ table) cid = if same_cid cid e.0 then Some e.1 else known_of table cid
 
 -- what a replica keeps of causal operations
+-- for example: see `first_state`
 pub record CausalState (Value Op : Type 0) : Type 0 where
   pub clock : ℕ
   pub rep_ts : Stamp
@@ -46,6 +42,7 @@ pub record CausalState (Value Op : Type 0) : Type 0 where
   pub held : List (Call Op)
 
 -- the state of a replica at which nothing has happened
+-- for example: `rep_ts` is `[0, 0]`
 abbrev pub first_state : {Value Op : Type 0} → Meaning Value Op → ℕ → ℕ → CausalState Value Op
 first_state m replicas parts = record {
   clock = 0;
@@ -63,20 +60,24 @@ first_state m replicas parts = record {
 }
 
 -- the stamp of a logged update: its causes, and its own number at its place
+-- for example: causes `[2, 0]` at `0:3` give `[3, 0]`
 abbrev pub stamp_of : {Op : Type 0} → LogUpdate Op → Stamp
 stamp_of u = set_part u.prev u.spot.place u.spot.number
 
 -- whether a time lies further back than the clock allows
+-- for example: time 5, delta 10, clock 16; not at clock 15
 abbrev pub is_late : ℕ → ℕ → ℕ → Bool
 is_late time delta clock = nat_lt (time + delta) clock
 
 -- a call was taken before where the table has it, and else where an update of it is logged
+-- for example: executed as `0:1`
 abbrev pub taken_before : {Op : Type 0} → Option Known → Option (LogUpdate Op) → Option Known
 taken_before (Some known) logged = Some known
 taken_before None (Some u) = Some (record { spot = u.spot; stamp = stamp_of u })
 taken_before None None = None
 
 -- what a replica says of an update's call that isn't late
+-- for example: a second copy of `0.1` is `Again 0:1`
 abbrev pub fresh_when : Option Known → Option LogAck → Fresh
 fresh_when (Some known) ack = Again known.spot known.stamp
 fresh_when None (Some ack) = Settled
@@ -92,11 +93,13 @@ fresh_of delta state cid time =
     (find (λ ack. same_cid ack.cid cid) state.acks)
 
 -- the list with one more update, in the order of spots
+-- for example: `0:2` goes behind `0:1`
 abbrev pub insert_update : {Op : Type 0} → LogUpdate Op → List (LogUpdate Op) → List (LogUpdate Op)
 insert_update u updates = insert_by (λ a b. is_before a.spot b.spot) u updates
 
 -- the update that a replica at this place makes of a call: it takes the next number, and comes after the last
 -- immediate update
+-- for example: at `[2, 0]` the call becomes `0:3`
 abbrev pub update_of_call : {Value Op : Type 0} → ℕ → CausalState Value Op → Call Op → LogUpdate Op
 update_of_call me state call = record {
   spot = record { place = me; number = part state.rep_ts me + 1 };
@@ -106,6 +109,7 @@ update_of_call me state call = record {
 }
 
 -- accepting a call: its update is logged, and its number is the last one taken here
+-- for example: `rep_ts` from `[2, 0]` to `[3, 0]`
 abbrev pub accepted : {Value Op : Type 0} → ℕ → CausalState Value Op → Call Op → CausalState Value Op
 accepted me state call =
     let u = update_of_call me state call in
@@ -116,14 +120,17 @@ accepted me state call =
     }
 
 -- what a replica tells another: how many items it received of each place, and its whole log
+-- for example: `[1, 0, 0]`, and the update at `0:1`
 abbrev pub gossip_of : {Value Op : Type 0} → CausalState Value Op → Gossip Op
 gossip_of state = record { rep_ts = state.rep_ts; updates = state.updates; acks = state.acks }
 
 -- whether an item at this spot is new where so many items were received of each place
+-- for example: `0:2` at `[1, 0, 0]`, not `0:1`
 abbrev pub is_new : Stamp → Spot → Bool
 is_new rep_ts spot = nat_lt (part rep_ts spot.place) spot.number
 
 -- the updates that are new
+-- for example: of `0:1`, `0:2` at `[1, 0, 0]`: `0:2`
 abbrev pub new_updates : {Op : Type 0} → Stamp → List (LogUpdate Op) → List (LogUpdate Op)
 new_updates rep_ts updates = filter (λ u. is_new rep_ts u.spot) updates
 
@@ -132,6 +139,7 @@ abbrev pub new_acks : Stamp → List LogAck → List LogAck
 new_acks rep_ts acks = filter (λ a. is_new rep_ts a.spot) acks
 
 -- the list with these updates too, in the order of spots
+-- for example: `0:1` goes before `1:1`
 abbrev pub insert_updates : {Op : Type 0} → List (LogUpdate Op) → List (LogUpdate Op) → List (LogUpdate Op)
 insert_updates more updates = insert_all_by (λ a b. is_before a.spot b.spot) more updates
 
@@ -145,6 +153,7 @@ insert_acks more acks = insert_all_by (λ a b. is_before a.spot b.spot) more ack
 
 -- taking gossip of this replica: what is new is logged, and its stamp is joined to the own one and to the one kept of
 -- it
+-- for example: `[1, 0, 0]` at `[0, 2, 0]` gives `[1, 2, 0]`
 abbrev pub gossip_taken : {Value Op : Type 0} → ℕ → CausalState Value Op → Gossip Op → CausalState Value Op
 gossip_taken from state gossip = record state {
   rep_ts = join state.rep_ts gossip.rep_ts;
@@ -154,16 +163,19 @@ gossip_taken from state gossip = record state {
 }
 
 -- how many items of gossip are new
+-- for example: 1
 abbrev pub new_count : {Value Op : Type 0} → CausalState Value Op → Gossip Op → ℕ
 new_count state gossip = length (new_updates state.rep_ts gossip.updates) + length (new_acks state.rep_ts gossip.acks)
 
 -- how far applying has come: the value, the stamp of what was applied, the executed calls
+-- for example: the start, `[0, 0]`, none
 pub record Progress (Value : Type 0) : Type 0 where
   pub value : Value
   pub val_ts : Stamp
   pub calls : List (Cid × Known)
 
 -- applying an update: its call is executed unless it was before, and its stamp is covered either way
+-- for example: after `0:3` the value's stamp has 3 at place 0
 abbrev pub apply_one : {Value Op : Type 0} → Meaning Value Op → Progress Value → LogUpdate Op → Progress Value
 apply_one m p u =
     let covered = join p.val_ts (stamp_of u) in
@@ -176,10 +188,12 @@ apply_one m p u =
     }
 
 -- whether an update counts as applied to a value with this stamp
+-- for example: `0:2` with causes `[1, 0]` at the stamp `[2, 0]`
 abbrev pub is_covered : {Op : Type 0} → Stamp → LogUpdate Op → Bool
 is_covered val_ts u = stamp_le (stamp_of u) val_ts
 
 -- the first update whose causes are applied, and the others
+-- for example: of causes `[5, 0]`, `[0, 0]` at the stamp `[1, 0]`: the second
 abbrev pub take_ready : {Op : Type 0} → Stamp → List (LogUpdate Op) → Option (LogUpdate Op × List (LogUpdate Op))
 take_ready val_ts [] = None
 take_ready val_ts (u ∷ todo) =
@@ -188,6 +202,7 @@ take_ready val_ts (u ∷ todo) =
     else option_map (λ taken. (taken.0, u ∷ taken.1)) (take_ready val_ts todo)
 
 -- applying the first update whose causes are applied, again and again, so many times at the most
+-- for example: two turns for two updates
 abbrev pub apply_ready : {Value Op : Type 0} → Meaning Value Op → ℕ → List (LogUpdate Op) → Progress Value
     → Progress Value
 apply_ready m zero todo p = p
@@ -195,14 +210,17 @@ apply_ready m (suc turns) todo p =
     option_map_or (λ taken. apply_ready m turns taken.1 (apply_one m p taken.0)) (take_ready p.val_ts todo) p
 
 -- the logged updates that don't count as applied as the part begins
+-- for example: all of them at a stamp of zeros
 abbrev pub waiting : {Op : Type 0} → Stamp → List (LogUpdate Op) → List (LogUpdate Op)
 waiting val_ts updates = filter (λ u. not (is_covered val_ts u)) updates
 
 -- how far applying had come in a state
+-- for example: the start, `[0, 0]`, none in `first_state`
 abbrev pub progress_of : {Value Op : Type 0} → CausalState Value Op → Progress Value
 progress_of state = record { value = state.value; val_ts = state.val_ts; calls = state.calls }
 
 -- applying all that is ready: of those that wait, the least place and number whose causes are applied comes first
+-- for example: `add x 3` is applied, and x is 3
 abbrev pub applied : {Value Op : Type 0} → Meaning Value Op → CausalState Value Op → CausalState Value Op
 applied m state =
     let todo = waiting state.val_ts state.updates in
@@ -210,13 +228,16 @@ applied m state =
     record state { value = p.value; val_ts = p.val_ts; calls = p.calls }
 
 -- pruning: a lone replica keeps no update, since all know it; with several nothing leaves
+-- for example: the log is empty after each step
 abbrev pub pruned : {Value Op : Type 0} → ℕ → CausalState Value Op → CausalState Value Op
 pruned replicas state = if replicas == 1 then record state { updates = [] } else state
 
 -- holding a query: it comes behind those that are held
+-- for example: `0.2` behind `0.1`
 abbrev pub held_more : {Value Op : Type 0} → CausalState Value Op → Call Op → CausalState Value Op
 held_more state call = record state { held = state.held ++ call ∷ [] }
 
 -- what a query with this label is answered: nothing while something of its label isn't applied
+-- for example: label `[2, 0]` at the stamp `[1, 0]`: nothing
 abbrev pub answer_of : {Value Op : Type 0} → Meaning Value Op → Value → Stamp → Stamp → Op → Option Bytes
 answer_of m value val_ts label op = if stamp_le label val_ts then Some (m.read value op) else None

@@ -1,4 +1,6 @@
 -- The laws of the order of stamps, of their join, and of writing a part.
+-- Facts with their proofs: `stamp_le` is an order and goes part by part, a part of a `join` is the greater of the two,
+-- and `set_part` changes one part.
 use Rattle.std.proofs.Common.{◌≡◌, ◌≢◌, ◌<◌, ℕ, zero, suc, max, true, ◌==◌, nat_le, [], ◌∷◌, length, replicate, refl}
 use Rattle.std.proofs.Common.{arith, eq-eqb, eqb-true, leb-true, le-leb}
 use Rattle.std.proofs.lemmas.Bool.{and_parts}

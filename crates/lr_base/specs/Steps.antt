@@ -1,4 +1,5 @@
 -- What a replica does with a message, as a function of its state.
+-- Each step has the message's own part and one end.
 use Rattle.std.specs.Prelude.{ℕ, ◌+◌, ◌==◌, Bool, true, false, not, nat_lt, if◌then◌else◌, List, [], ◌∷◌, ◌++◌}
 use Rattle.std.specs.Prelude.{filter, length}
 use Rattle.lr_base.specs.Limits.{held_room, last_number, log_room}
@@ -25,19 +26,23 @@ use Rattle.lr_base.specs.declared.acts.Act.{Act}
 use Rattle.lr_base.specs.declared.acts.Act.TheVariants.{Say, Send}
 
 -- a replica's state after a step, and what it does in it
+-- for example: the same state, and no act
 pub record Ending (Value Op : Type 0) : Type 0 where
   pub state : CausalState Value Op
   pub acts : List (Act Op)
 
 -- the reply to an update, which goes to the client of its call
+-- for example: `done 0.1 as 0:1`, to `c0`
 abbrev pub done_act : {Op : Type 0} → Cid → Spot → Stamp → Act Op
 done_act cid spot stamp = Send (Client cid.client) (Done cid spot stamp)
 
 -- the reply to a query: what the service answers, and what it was read after
+-- for example: `answer 0.2 3`, to `c0`
 abbrev pub answer_act : {Value Op : Type 0} → Meaning Value Op → CausalState Value Op → Call Op → Act Op
 answer_act m state call = Send (Client call.cid.client) (Answer call.cid (m.read state.value call.op) state.val_ts)
 
 -- each held query whose label is now applied is answered, in the order of arrival
+-- for example: `answer 0.2 3` once `0:1` is applied
 abbrev pub held_acts : {Value Op : Type 0} → Meaning Value Op → CausalState Value Op → List (Call Op) → List (Act Op)
 held_acts m state [] = []
 held_acts m state (call ∷ calls) =
@@ -46,28 +51,34 @@ held_acts m state (call ∷ calls) =
     else held_acts m state calls
 
 -- answered queries are held no more
+-- for example: `0.2` leaves
 abbrev pub still_held : {Value Op : Type 0} → CausalState Value Op → CausalState Value Op
 still_held state = record state { held = filter (λ call. not (stamp_le call.prev state.val_ts)) state.held }
 
 -- the end of each step: what is ready is applied, then held queries are answered, then what is known everywhere leaves
+-- for example: `add x 3` is applied, and a lone replica's log is empty
 abbrev pub ended : {Value Op : Type 0} → Meaning Value Op → ℕ → CausalState Value Op → List (Act Op) → Ending Value Op
 ended m replicas state own =
     let now = applied m state in
     record { state = pruned replicas (still_held now); acts = own ++ held_acts m now now.held }
 
 -- nothing is done of its own, and this is why
+-- for example: the same state, and the line `refuse worn`
 abbrev pub refusing : {Value Op : Type 0} → CausalState Value Op → Refusal → Ending Value Op
 refusing state why = record { state = state; acts = Say (Refuse why) ∷ [] }
 
 -- whether one more item may be logged
+-- for example: true of 511, false of 512
 abbrev pub has_room : {Value Op : Type 0} → CausalState Value Op → Bool
 has_room state = nat_lt (length state.updates + length state.acks) log_room
 
 -- whether this replica may still number an update
+-- for example: true of `[1, 0]`
 abbrev pub has_number : {Value Op : Type 0} → ℕ → CausalState Value Op → Bool
 has_number me state = nat_lt (part state.rep_ts me) last_number
 
 -- a new call is refused without room or a number, and else accepted
+-- for example: `accept 0:1 0.1`, and its reply
 abbrev pub call_taken : {Value Op : Type 0} → ℕ → CausalState Value Op → Call Op → Bool → Bool → Ending Value Op
 call_taken me state call false number = refusing state FullLog
 call_taken me state call true false = refusing state Worn
@@ -79,6 +90,7 @@ call_taken me state call true true =
     }
 
 -- an update, after its first checks: one that was taken before is replied to again
+-- for example: a second copy of `0.1`: `refuse again 0:1`, and its reply
 abbrev pub update_taken : {Value Op : Type 0} → ℕ → CausalState Value Op → Call Op → Fresh → Ending Value Op
 update_taken me state call New = call_taken me state call (has_room state) (has_number me state)
 update_taken me state call (Late time clock) = refusing state (IsLate time clock)
@@ -89,11 +101,13 @@ update_taken me state call (Again spot stamp) = record {
 update_taken me state call Settled = refusing state IsSettled
 
 -- a query that can't be answered yet is held while there is room
+-- for example: `hold 0.2`
 abbrev pub query_held : {Value Op : Type 0} → CausalState Value Op → Call Op → Bool → Ending Value Op
 query_held state call false = refusing state FullHeld
 query_held state call true = record { state = held_more state call; acts = Say (Hold call.cid) ∷ [] }
 
 -- a query is answered where all that its label names is applied
+-- for example: `answer 0.2 3`
 abbrev pub query_taken : {Value Op : Type 0} → Meaning Value Op → CausalState Value Op → Call Op → Bool
     → Ending Value Op
 query_taken m state call true = record { state = state; acts = answer_act m state call ∷ [] }
@@ -104,12 +118,14 @@ abbrev pub idle : {Value Op : Type 0} → CausalState Value Op → Ending Value 
 idle state = record { state = state; acts = [] }
 
 -- gossip is taken, if it comes from another replica
+-- for example: `take 1`
 abbrev pub gossip_given : {Value Op : Type 0} → ℕ → CausalState Value Op → Gossip Op → Bool → Ending Value Op
 gossip_given from state gossip true = idle state
 gossip_given from state gossip false =
     record { state = gossip_taken from state gossip; acts = Say (Take (new_count state gossip)) ∷ [] }
 
 -- what a message itself does at a replica: replies have no rule there, nor has what comes from where it can't
+-- for example: of a reply: nothing
 abbrev pub own_taken : {Value Op : Type 0} → Meaning Value Op → Config → ℕ → CausalState Value Op → Actor
     → Message Op → Ending Value Op
 own_taken m config me state (Client client) (Update call time) =
@@ -119,6 +135,7 @@ own_taken m config me state (Replica from) (GossipMessage gossip) = gossip_given
 own_taken m config me state _ _ = idle state
 
 -- what a replica does with a message, to the end of the step
+-- for example: event 2 of `first.script`
 abbrev pub taken : {Value Op : Type 0} → Meaning Value Op → Config → ℕ → CausalState Value Op → Actor → Message Op
     → Ending Value Op
 taken m config me state from message =
@@ -126,5 +143,6 @@ taken m config me state from message =
     ended m config.replicas own.state own.acts
 
 -- a replica sends gossip to another, to the end of the step
+-- for example: `send 4 r0 r1 gossip`
 abbrev pub gossiped : {Value Op : Type 0} → Meaning Value Op → ℕ → ℕ → CausalState Value Op → Ending Value Op
 gossiped m replicas to state = ended m replicas state (Send (Replica to) (GossipMessage (gossip_of state)) ∷ [])

@@ -1,8 +1,7 @@
 //! The names of clients, replicas, calls and places, and the numbers that a run is set up with.
 ghost use Rattle.std.specs.Prelude.{◌≡◌, ◌↔◌, IsTrue};
-ghost use Rattle.lr_base.specs.Ascending.{cid_before};
+ghost use Rattle.lr_base.specs.Ascending.{cid_before, is_before as spot_before};
 ghost use Rattle.lr_base.specs.Config.{IsValid};
-ghost use Rattle.lr_base.specs.Rules.{is_before as spot_before};
 
 use crate::limits::{MOST_CLIENTS, MOST_REPLICAS};
 

@@ -2,9 +2,10 @@
 use Rattle.std.proofs.Common.{◌≡◌, ℕ, suc, Bool, true, false, List, [], ◌∷◌, refl, Some, None}
 use Rattle.std.specs.Prelude.{filter, find}
 use Rattle.std.specs.Option.{ForSome}
+use Rattle.lr_base.specs.Ascending.{is_before}
 use Rattle.lr_base.specs.declared.lr_service.Kind.{Kind}
 use Rattle.lr_base.specs.declared.messages.LogUpdate.{LogUpdate}
-use Rattle.lr_base.specs.Rules.{is_before, is_new, new_updates, insert_update, insert_updates}
+use Rattle.lr_base.specs.Rules.{is_new, new_updates, insert_update, insert_updates}
 use Rattle.lr_base.specs.Logged.{IsLogged, AllLogged}
 use Rattle.lr_causal.proofs.Each.{Each-filter, Each-insert, Each-insert_all}
 use Rattle.lr_log.specs.Items.{Items}

@@ -5,12 +5,13 @@ use Rattle.std.specs.Option.{ForSome}
 use Rattle.std.proofs.Math.ListN.{length-set}
 use Rattle.std.proofs.Math.Seq.{take-length}
 use Rattle.std.proofs.lemmas.List.{set-get_or, set-set}
+use Rattle.lr_base.specs.Ascending.{is_before}
 use Rattle.lr_base.specs.declared.messages.Gossip.{Gossip}
 use Rattle.lr_base.specs.declared.messages.Known.{Known}
 use Rattle.lr_base.specs.declared.messages.LogAck.{LogAck}
 use Rattle.lr_base.specs.declared.messages.LogUpdate.{LogUpdate}
 use Rattle.lr_base.specs.declared.names.Cid.{Cid}
-use Rattle.lr_base.specs.Rules.{CausalState, gossip_taken, is_before, is_new, new_acks, new_updates, insert_acks, insert_update}
+use Rattle.lr_base.specs.Rules.{CausalState, gossip_taken, is_new, new_acks, new_updates, insert_acks, insert_update}
 use Rattle.lr_base.specs.Stamps.{join, part, set_part}
 use Rattle.lr_base.specs.StampLaws.{join-least, length-join, length-set_part, parts-stamp_le, stamp_le-refl, stamp_le-trans}
 use Rattle.lr_value.specs.Applied.{Applied, Lagging}

@@ -1,10 +1,11 @@
 -- Which items are new at a stamp, and which were received.
 use Rattle.std.proofs.Common.{◌≡◌, ◌≤◌, ℕ, zero, suc, Bool, true, false, not, List, [], ◌∷◌, refl, arith, le-leb, lt-ltb, le-ltb, ltb-true, ltb-false}
 use Rattle.std.specs.Prelude.{filter}
+use Rattle.lr_base.specs.Ascending.{is_before}
 use Rattle.lr_base.specs.declared.messages.LogAck.{LogAck}
 use Rattle.lr_base.specs.declared.messages.LogUpdate.{LogUpdate}
 use Rattle.lr_base.specs.declared.names.Spot.{Spot}
-use Rattle.lr_base.specs.Rules.{is_before, is_new, new_acks, new_updates, insert_acks, insert_update, insert_updates}
+use Rattle.lr_base.specs.Rules.{is_new, new_acks, new_updates, insert_acks, insert_update, insert_updates}
 use Rattle.lr_base.specs.Stamps.{join, part, set_part, stamp_le}
 use Rattle.lr_base.specs.StampLaws.{join-least, part-set_part, parts-stamp_le, stamp_le-refl}
 use Rattle.lr_base.specs.Logged.{AllAcksReceived, AllReceived}

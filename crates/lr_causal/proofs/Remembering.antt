@@ -1,8 +1,9 @@
 -- What a value remembers of a log stays so as the log gains what is new.
 use Rattle.std.proofs.Common.{◌≡◌, ℕ, true, false, List, Option, None, Some, ◌∙◌}
 use Rattle.std.specs.Option.{option_map}
+use Rattle.lr_base.specs.Ascending.{is_before}
 use Rattle.lr_base.specs.declared.messages.LogUpdate.{LogUpdate}
-use Rattle.lr_base.specs.Rules.{insert_update, insert_updates, is_before, is_covered, is_new, new_updates}
+use Rattle.lr_base.specs.Rules.{insert_update, insert_updates, is_covered, is_new, new_updates}
 use Rattle.lr_base.specs.StampLaws.{stamp_le-refl, stamp_le-trans}
 use Rattle.lr_base.specs.Stamps.{stamp_le}
 use Rattle.lr_causal.specs.Causal.{HasSeen}

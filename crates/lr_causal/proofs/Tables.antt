@@ -8,11 +8,11 @@ use Rattle.std.specs.List.{AllByRecursion, IsDistinct}
 use Rattle.std.specs.Map.{keys_of, lookup}
 use Rattle.lr_base.specs.CallLaws.{AreByCall-entered, known_of-entered, none-known, same-tables}
 use Rattle.lr_base.specs.Calls.{AreByCall, by_call, enter_call, up_to_call}
-use Rattle.lr_base.specs.Ascending.{cid_before}
+use Rattle.lr_base.specs.Ascending.{cid_before, same_cid}
 use Rattle.lr_base.specs.InsertionLaws.{ascends-filter, filter-both}
 use Rattle.lr_base.specs.Logged.{AllKnown}
 use Rattle.lr_base.specs.NameLaws.{same_cid-is, same_cid-self, same_cid-sym}
-use Rattle.lr_base.specs.Rules.{same_cid, known_of}
+use Rattle.lr_base.specs.Rules.{known_of}
 use Rattle.lr_base.specs.contracts.names.CidPartialEq.TheImpl.{eq-value}
 use Rattle.lr_base.specs.declared.names.Cid.{Cid}
 use Rattle.lr_base.specs.declared.messages.Known.{Known}

@@ -6,6 +6,7 @@ use Rattle.lr_base.specs.Rules.{CausalState}
 use Rattle.lr_causal.specs.declared.causal.Causal.{Causal}
 
 -- the replica's state, as the rules see it
+-- for example: `first_state` of a new one
 abbrev pub state_of : {S Op : Type 0} {g : _} {h : _} → Causal S Op g h → CausalState S Op
 state_of c = record {
   clock = c.clock;
@@ -23,6 +24,7 @@ state_of c = record {
 }
 
 -- what the run is set up with
+-- for example: replica 0
 abbrev pub config_of : {S Op : Type 0} {g : _} {h : _} → Causal S Op g h → Config
 config_of c = c.config
 
@@ -31,5 +33,6 @@ abbrev pub me_of : {S Op : Type 0} {g : _} {h : _} → Causal S Op g h → ℕ
 me_of c = c.me
 
 -- all three
+-- for example: `first_replica` of a new one
 abbrev pub replica_of : {S Op : Type 0} {g : _} {h : _} → Causal S Op g h → ReplicaState S Op
 replica_of c = record { config = config_of c; me = me_of c; causal = state_of c }

@@ -58,10 +58,11 @@ impl<S: Service> Causal<S> {
     ghost use Rattle.std.specs.Prelude.{◌≡◌, ◌+◌, ◌<◌, ◌↔◌, ℕ, find, length, IfSome, IfOk, IsTrue, OnOk, OnErr};
     ghost use Rattle.lr_causal.specs.Causal.{AgainHasParts, IsAnswerOf, IsGossip, IsUpdateCall, NoneApplied};
     ghost use Rattle.lr_causal.specs.Savepoint.{CanUndo, HasShapeOf, IsPointOf, IsSame};
+    ghost use Rattle.lr_base.specs.Ascending.{same_cid};
     ghost use Rattle.lr_base.specs.Config.{IsValid};
     ghost use Rattle.lr_base.specs.Kinds.{IsQuery, IsUpdate};
     ghost use Rattle.lr_base.specs.Rules.{CausalState, accepted, answer_of, applied, first_state, fresh_of, gossip_of};
-    ghost use Rattle.lr_base.specs.Rules.{gossip_taken, held_more, known_of, new_count, pruned, same_cid, taken_before};
+    ghost use Rattle.lr_base.specs.Rules.{gossip_taken, held_more, known_of, new_count, pruned, taken_before};
     ghost use Rattle.lr_base.specs.Rules.{update_of_call};
     ghost use Rattle.lr_base.specs.Limits.{last_number};
     ghost use Rattle.lr_base.specs.Stamps.{part};

@@ -3,9 +3,10 @@ use Rattle.std.proofs.Common.{◌≡◌, ◌<◌, ◌≤◌, ◌++◌, ℕ, zero
 use Rattle.std.proofs.Common.{subst, arith, eq-eqb, lt-ltb}
 use Rattle.std.specs.Prelude.{◌||◌, ◌&&◌, nat_lt}
 use Rattle.std.specs.List.{AllByRecursion}
+use Rattle.lr_base.specs.Ascending.{is_before}
 use Rattle.lr_base.specs.Places.{AreInOrder}
 use Rattle.lr_base.specs.Logged.{AllAcksReceived}
-use Rattle.lr_base.specs.Rules.{is_before, is_new}
+use Rattle.lr_base.specs.Rules.{is_new}
 use Rattle.lr_base.specs.declared.messages.LogAck.{LogAck}
 
 -- each stands at this place, and none has a number past the last

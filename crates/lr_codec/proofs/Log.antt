@@ -2,8 +2,8 @@
 use Rattle.std.proofs.Common.{◌≡◌, ◌<◌, ◌≤◌, ◌+◌, ℕ, suc, Bool, true, false, cond, List, [], ◌∷◌, ◌++◌, length, get_or}
 use Rattle.std.proofs.Common.{drop, refl, sym, ◌∙◌, ap, append_assoc, add-one, drop-cons, flat_map, arith}
 use Rattle.std.proofs.lemmas.List.{drop_all}
+use Rattle.lr_base.specs.Ascending.{is_before}
 use Rattle.lr_base.specs.Bytes.{Bytes}
-use Rattle.lr_base.specs.Rules.{is_before}
 use Rattle.lr_base.specs.declared.messages.LogAck.{LogAck}
 use Rattle.lr_base.specs.declared.messages.LogUpdate.{LogUpdate}
 use Rattle.lr_codec.specs.declared.items.Item.{Item}

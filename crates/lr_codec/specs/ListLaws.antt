@@ -6,6 +6,7 @@ use mathlib.Core.Logic.{inl, inr}
 use Rattle.std.proofs.Common.{arith}
 use Rattle.std.proofs.lemmas.Bool.{and_parts, and_from, eqb-true}
 use Rattle.std.proofs.lemmas.Bool.Decides.{nat_tests}
+use Rattle.lr_base.specs.Ascending.{is_before}
 use Rattle.lr_base.specs.Bytes.{Bytes, each_may}
 use Rattle.lr_base.specs.FormatLaws.{both-exact, count_format-exact, either-exact, keyed-exact, known_test-exact}
 use Rattle.lr_base.specs.FormatLaws.{leading-exact, listed-exact, number_of-exact, number_format-exact}
@@ -15,7 +16,6 @@ use Rattle.lr_base.specs.Formats.{known_test, keyed, listed, repeated}
 use Rattle.lr_base.specs.Kinds.{is_immediate}
 use Rattle.lr_base.specs.Meaning.{Meaning, Lawful, IsLegible}
 use Rattle.lr_base.specs.NameLaws.{before-once, before-trans}
-use Rattle.lr_base.specs.Rules.{is_before}
 use Rattle.lr_base.specs.Stamps.{Stamp}
 use Rattle.lr_base.specs.declared.bytes.BadWhat.TheVariants.{Range}
 use Rattle.lr_base.specs.declared.lr_service.Kind.{Kind}

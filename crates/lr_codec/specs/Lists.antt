@@ -2,14 +2,13 @@
 use Rattle.std.specs.Prelude.{ℕ, ◌+◌, ◌==◌, ◌&&◌, ◌||◌, Bool, true, nat_lt, nat_le, List, [], ◌∷◌}
 use Rattle.std.specs.Prelude.{if◌then◌else◌, Option, Some, None, ◌⊎◌}
 use mathlib.Core.Logic.{inl, inr}
-use Rattle.lr_base.specs.Ascending.{cid_before}
+use Rattle.lr_base.specs.Ascending.{cid_before, is_before}
 use Rattle.lr_base.specs.Bytes.{Bytes}
 use Rattle.lr_base.specs.Formats.{Format, number_of, number_format, count_format, leading, both, renamed, only_where}
 use Rattle.lr_base.specs.Formats.{known_test, either, keyed, listed}
 use Rattle.lr_base.specs.Kinds.{is_immediate}
 use Rattle.lr_base.specs.Limits.{last_number, order_room}
 use Rattle.lr_base.specs.Meaning.{Meaning}
-use Rattle.lr_base.specs.Rules.{is_before}
 use Rattle.lr_base.specs.Stamps.{Stamp, part}
 use Rattle.lr_base.specs.declared.bytes.BadWhat.TheVariants.{Range}
 use Rattle.lr_base.specs.declared.messages.Entry.{Entry}

@@ -2,8 +2,8 @@
 use Rattle.std.specs.Prelude.{ℕ, zero, suc, ◌==◌, Bool, ◌&&◌, ◌||◌, not, if◌then◌else◌}
 use Rattle.std.specs.Prelude.{List, [], ◌∷◌, ◌++◌, Option, Some, None, is_some}
 use Rattle.std.specs.List.{list_any, list_all}
+use Rattle.lr_base.specs.Ascending.{same_cid}
 use Rattle.lr_base.specs.Meaning.{Meaning}
-use Rattle.lr_base.specs.Rules.{same_cid}
 use Rattle.lr_base.specs.declared.names.Actor.{Actor}
 use Rattle.lr_base.specs.declared.names.Cid.{Cid}
 use Rattle.lr_base.specs.declared.names.Spot.{Spot}

@@ -1,9 +1,9 @@
 -- Which outcomes an event may have, and which histories are legal.
 use Rattle.std.specs.Prelude.{◌≡◌, ◌^◌, ℕ, suc, ◌==◌, nat_lt, max, Bool, true, false, ◌&&◌, not, if◌then◌else◌}
 use Rattle.std.specs.Prelude.{List, [], ◌∷◌, ◌++◌, length, map, Option, Some, None}
+use Rattle.lr_base.specs.Ascending.{same_cid}
 use Rattle.lr_base.specs.Kinds.{is_query}
 use Rattle.lr_base.specs.Meaning.{Meaning}
-use Rattle.lr_base.specs.Rules.{same_cid}
 use Rattle.lr_base.specs.declared.events.Event.{Event}
 use Rattle.lr_base.specs.declared.events.Event.TheVariants.{Call, Deliver, Gossip as GossipEvent, Show}
 use Rattle.lr_base.specs.declared.events.Outcome.{Outcome}

@@ -1,8 +1,7 @@
 -- Sets of spots, as tests, and lists made of them.
 use Rattle.std.specs.Prelude.{ℕ, suc, Bool, false, ◌&&◌, ◌||◌, ◌==◌, if◌then◌else◌, List, [], ◌∷◌, Option, Some, None}
-use Rattle.lr_base.specs.Ascending.{cid_before}
+use Rattle.lr_base.specs.Ascending.{cid_before, same_cid, is_before}
 use Rattle.lr_base.specs.Insertion.{insert_by, insert_new_by}
-use Rattle.lr_base.specs.Rules.{same_cid, is_before}
 use Rattle.lr_base.specs.declared.names.Cid.{Cid}
 use Rattle.lr_base.specs.declared.names.Spot.{Spot}
 

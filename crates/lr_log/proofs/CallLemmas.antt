@@ -5,11 +5,11 @@ use Rattle.std.proofs.Common.{refl, sym, ap, ◌∙◌, subst, arith, not}
 use Rattle.std.specs.Prelude.{insert}
 use Rattle.std.specs.List.Sorted.{IsPartitionPoint}
 use Rattle.std.specs.List.{AllByRecursion}
+use Rattle.lr_base.specs.Ascending.{is_before}
 use Rattle.lr_base.specs.Insertion.{Ascends, insert_by, sorted_by}
 use Rattle.lr_base.specs.InsertionLaws.{ascends-inserted, each-inserted, inserted-commute, inserted-where}
 use Rattle.lr_base.specs.InsertionLaws.{length-inserted}
 use Rattle.lr_base.specs.Places.{AreInOrder}
-use Rattle.lr_base.specs.Rules.{is_before}
 use Rattle.lr_base.specs.declared.names.Cid.{Cid}
 use Rattle.lr_base.specs.declared.names.Spot.{Spot}
 use Rattle.lr_log.specs.Calls.{IsPlaced, entry_before, entry_of, index_of, insert_entry}

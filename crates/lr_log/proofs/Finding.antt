@@ -6,10 +6,9 @@ use Rattle.lr_log.specs.ItemLaws.{each-map}
 use Rattle.std.specs.List.{AllByRecursion}
 use Rattle.std.specs.List.Sorted.{IsPartitionPoint}
 use Rattle.std.specs.Option.{option_map}
-use Rattle.lr_base.specs.Ascending.{cid_before}
+use Rattle.lr_base.specs.Ascending.{cid_before, is_before, same_cid}
 use Rattle.lr_base.specs.Insertion.{Ascends, insert_by}
 use Rattle.lr_base.specs.Places.{AreInOrder, items_at}
-use Rattle.lr_base.specs.Rules.{is_before, same_cid}
 use Rattle.lr_base.specs.declared.names.Cid.{Cid}
 use Rattle.lr_base.specs.declared.names.Spot.{Spot}
 use Rattle.lr_log.specs.Calls.{IsPlaced, entry_before, entry_of, index_of}

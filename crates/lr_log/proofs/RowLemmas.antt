@@ -6,10 +6,10 @@ use Rattle.std.specs.Prelude.{◌==◌}
 use Rattle.std.specs.List.{AllByRecursion}
 use Rattle.std.proofs.lemmas.List.{get_or_default}
 use Rattle.std.proofs.lemmas.List.Edits.{map_over_more}
+use Rattle.lr_base.specs.Ascending.{is_before}
 use Rattle.lr_base.specs.Insertion.{Ascends, insert_by}
 use Rattle.lr_base.specs.InsertionLaws.{each-inserted}
 use Rattle.lr_base.specs.Places.{AreInOrder, items_at}
-use Rattle.lr_base.specs.Rules.{is_before}
 use Rattle.lr_base.specs.declared.names.Spot.{Spot}
 use Rattle.lr_log.specs.ItemLaws.{ascends-filter, each-filter, each-map, in_order-inserted}
 use Rattle.lr_log.specs.Items.{NoneAt}

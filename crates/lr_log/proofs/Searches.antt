@@ -4,10 +4,10 @@ use Rattle.std.proofs.Common.{ap, ◌∙◌, subst, arith}
 use Rattle.std.specs.List.{AllByRecursion}
 use Rattle.std.specs.List.Sorted.{IsPartitionedBy, IsPartitionPoint}
 use Rattle.std.specs.Prelude.{insert}
+use Rattle.lr_base.specs.Ascending.{is_before}
 use Rattle.lr_base.specs.Insertion.{Ascends}
 use Rattle.lr_base.specs.InsertionLaws.{inserted-where}
 use Rattle.lr_base.specs.Places.{AreInOrder}
-use Rattle.lr_base.specs.Rules.{is_before}
 use Rattle.lr_base.specs.declared.names.Spot.{Spot}
 use Rattle.lr_log.specs.Items.{NoneAt}
 use Rattle.lr_log.specs.Rows.{insert_item}

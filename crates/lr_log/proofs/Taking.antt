@@ -3,10 +3,10 @@ use Rattle.std.proofs.Common.{◌≡◌, ◌≢◌, ◌<◌, ◌≤◌, ◌+◌,
 use Rattle.std.proofs.Common.{take, map, filter, refl, sym, ap, ◌∙◌, arith, add-one, not, subst}
 use Rattle.std.specs.List.{AllByRecursion}
 use Rattle.std.proofs.Math.Seq.{take-suc}
+use Rattle.lr_base.specs.Ascending.{is_before}
 use Rattle.lr_base.specs.Insertion.{insert_by}
 use Rattle.lr_base.specs.InsertionLaws.{inserted-more}
 use Rattle.lr_base.specs.Places.{AreInOrder}
-use Rattle.lr_base.specs.Rules.{is_before}
 use Rattle.lr_base.specs.declared.names.Spot.{Spot}
 use Rattle.lr_log.specs.ItemLaws.{each-inserted_all, each-map}
 use Rattle.lr_log.specs.Items.{NoneAt}

@@ -1,9 +1,11 @@
 -- What keeps a log's items in their order, and which items a log can take.
+-- What keeps a log's items in their order.
 use Rattle.std.proofs.Common.{◌≡◌, ◌≢◌, ◌+◌, ℕ, suc, Bool, true, false, cond, List, [], ◌∷◌, filter, refl, sym, ap}
 use Rattle.std.proofs.Common.{◌∙◌, arith, lt-ltb}
 use Rattle.std.specs.Prelude.{slice_get}
 use Rattle.std.specs.List.{AllByRecursion}
 use Rattle.std.specs.Option.{ForSome}
+use Rattle.lr_base.specs.Ascending.{is_before}
 use Rattle.lr_base.specs.declared.names.Spot.{Spot}
 use Rattle.lr_base.specs.declared.messages.LogAck.{LogAck}
 use Rattle.lr_base.specs.declared.messages.LogUpdate.{LogUpdate}
@@ -11,7 +13,7 @@ use Rattle.lr_base.specs.Insertion.{Ascends, insert_all_by, insert_by}
 use Rattle.lr_base.specs.InsertionLaws.{ascends-inserted, each-inserted}
 use Rattle.lr_base.specs.Logged.{AllAcksReceived, AllReceived}
 use Rattle.lr_base.specs.Places.{AreInOrder}
-use Rattle.lr_base.specs.Rules.{insert_ack, insert_acks, insert_update, insert_updates, is_before, is_new, new_acks}
+use Rattle.lr_base.specs.Rules.{insert_ack, insert_acks, insert_update, insert_updates, is_new, new_acks}
 use Rattle.lr_base.specs.Rules.{new_updates}
 use Rattle.lr_base.specs.Stamps.{part}
 use Rattle.lr_log.specs.Items.{CanTake, IsFree, IsOrdered, Items, NoneAt, items_of}

@@ -2,9 +2,9 @@
 ghost use Rattle.std.specs.Prelude.{◌≡◌, ◌<◌, ◌≤◌, ◌^◌, [], not, filter, find, length, true, false, OnOk, OnErr, IfOk};
 ghost use Rattle.std.specs.List.Sorted.{IsPartitionPoint};
 ghost use Rattle.std.specs.Option.{option_map};
-ghost use Rattle.lr_base.specs.Ascending.{cid_before};
+ghost use Rattle.lr_base.specs.Ascending.{cid_before, is_before as spot_is_before, same_cid};
 ghost use Rattle.lr_base.specs.Insertion.{Ascends};
-ghost use Rattle.lr_base.specs.Rules.{is_before as spot_is_before, is_new as is_new_at, same_cid};
+ghost use Rattle.lr_base.specs.Rules.{is_new as is_new_at};
 ghost use Rattle.lr_log.specs.Calls.{entry_before, insert_entry};
 ghost use Rattle.lr_log.specs.Items.{NoneAt};
 ghost use Rattle.lr_log.specs.Rows.{same_spot};

@@ -2,9 +2,10 @@
 ghost use Rattle.std.specs.Prelude.{◌≡◌, ◌↔◌, ◌<◌, ◌+◌, not, IsTrue, IfOk, OnOk, OnErr};
 ghost use Rattle.std.specs.Prelude.{[], length, filter, find, map};
 ghost use Rattle.std.specs.Option.{option_map, option_copied};
+ghost use Rattle.lr_base.specs.Ascending.{same_cid};
 ghost use Rattle.lr_base.specs.Limits.{log_room};
 ghost use Rattle.lr_base.specs.Places.{items_at};
-ghost use Rattle.lr_base.specs.Rules.{is_new as is_new_at, same_cid};
+ghost use Rattle.lr_base.specs.Rules.{is_new as is_new_at};
 ghost use Rattle.lr_base.specs.Rules.{insert_ack, insert_acks as all_acks_inserted};
 ghost use Rattle.lr_base.specs.Rules.{insert_update, insert_updates as all_updates_inserted};
 ghost use Rattle.lr_log.specs.Items.{CanTake, IsFree, IsOrdered, Items, item_count, items_of};

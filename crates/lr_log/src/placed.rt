@@ -2,8 +2,9 @@
 ghost use Rattle.std.specs.Prelude.{◌≡◌, ◌<◌, ◌≤◌, ◌^◌, List, [], not, filter, find, map, take, length};
 ghost use Rattle.std.specs.Prelude.{OnOk, OnErr, IfOk};
 ghost use Rattle.std.specs.Option.{option_copied};
+ghost use Rattle.lr_base.specs.Ascending.{same_cid};
 ghost use Rattle.lr_base.specs.Places.{AreInOrder, items_at};
-ghost use Rattle.lr_base.specs.Rules.{is_new as is_new_at, same_cid};
+ghost use Rattle.lr_base.specs.Rules.{is_new as is_new_at};
 ghost use Rattle.lr_log.specs.Items.{NoneAt};
 ghost use Rattle.lr_log.specs.Rows.{AreFree, AreRows, insert_item, insert_items, same_spot, together};
 

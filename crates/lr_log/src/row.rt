@@ -2,8 +2,9 @@
 ghost use Rattle.std.specs.Prelude.{◌≡◌, ◌≤◌, ◌++◌, [], not, filter, find, map, length, false, true, OnOk, OnErr, IfOk};
 ghost use Rattle.std.specs.List.Sorted.{IsPartitionPoint};
 ghost use Rattle.std.specs.Option.{option_copied};
+ghost use Rattle.lr_base.specs.Ascending.{is_before as spot_is_before};
 ghost use Rattle.lr_base.specs.Places.{AreInOrder};
-ghost use Rattle.lr_base.specs.Rules.{is_before as spot_is_before, is_new as is_new_at};
+ghost use Rattle.lr_base.specs.Rules.{is_new as is_new_at};
 ghost use Rattle.lr_log.specs.Items.{NoneAt};
 ghost use Rattle.lr_log.specs.Rows.{insert_item, same_spot};
 

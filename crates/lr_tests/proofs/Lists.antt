@@ -3,9 +3,10 @@ use Rattle.std.proofs.Common.{◌≡◌, Bool, true, false, List, [], ◌∷◌,
 use Rattle.std.specs.Prelude.{find}
 use Rattle.std.specs.Borrow.{Bor}
 use Rattle.std.specs.Option.{option_copied}
+use Rattle.lr_base.specs.Ascending.{same_cid}
 use Rattle.lr_base.specs.CallLaws.{some-entered}
 use Rattle.lr_base.specs.Calls.{enter_call, enter_calls}
-use Rattle.lr_base.specs.Rules.{same_cid, known_of}
+use Rattle.lr_base.specs.Rules.{known_of}
 use Rattle.lr_base.specs.declared.messages.Known.{Known}
 use Rattle.lr_base.specs.declared.names.Cid.{Cid}
 

@@ -7,9 +7,10 @@ use Rattle.std.specs.List.{AllByRecursion}
 use Rattle.std.specs.Option.{ForSome}
 use Rattle.std.proofs.lemmas.List.{append-nil}
 use Rattle.std.proofs.lemmas.List.Elements.{filter-append}
+use Rattle.lr_base.specs.Ascending.{is_before}
 use Rattle.lr_base.specs.Insertion.{Ascends}
 use Rattle.lr_base.specs.Places.{AreInOrder, items_at}
-use Rattle.lr_base.specs.Rules.{is_before, is_new}
+use Rattle.lr_base.specs.Rules.{is_new}
 use Rattle.lr_base.specs.declared.messages.LogUpdate.{LogUpdate}
 use Rattle.lr_base.specs.declared.names.Spot.{Spot}
 use Rattle.lr_value.specs.Waiting.{AreOfPlace}

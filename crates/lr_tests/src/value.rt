@@ -1,9 +1,9 @@
 //! The calls of a value, with states worked out by hand.
 ghost use Rattle.std.specs.Prelude.{◌≡◌, ◌-◌, [], ◌∷◌, ◌++◌, length, take, None, find, is_some, IfOk, OnOk, OnErr};
 ghost use Rattle.std.specs.Option.{option_copied};
+ghost use Rattle.lr_base.specs.Ascending.{same_cid};
 ghost use Rattle.lr_base.specs.Logged.{AllLogged, AllReceived, IsLogged};
 ghost use Rattle.lr_base.specs.Places.{AreInOrder, items_at};
-ghost use Rattle.lr_base.specs.Rules.{same_cid};
 ghost use Rattle.lr_tests.specs.Sample.{AreSample};
 
 use lr_base::lr_service::{Kind, Operation, Service};

@@ -8,11 +8,12 @@ use Rattle.std.specs.Option.{ForSome}
 use Rattle.std.proofs.lemmas.Option.{slice_get-get_or}
 use Rattle.std.proofs.lemmas.List.Elements.{filter-append}
 use Rattle.std.proofs.lemmas.List.{append-nil, take-append-drop}
+use Rattle.lr_base.specs.Ascending.{is_before}
 use Rattle.lr_base.specs.declared.messages.LogUpdate.{LogUpdate}
 use Rattle.lr_base.specs.declared.names.Spot.{Spot}
 use Rattle.lr_base.specs.Insertion.{Ascends}
 pub use Rattle.lr_base.specs.InsertionLaws.{ascends-filter, each-filter, filter-both}
-use Rattle.lr_base.specs.Rules.{is_before, is_covered, is_new, waiting}
+use Rattle.lr_base.specs.Rules.{is_covered, is_new, waiting}
 use Rattle.lr_base.specs.Stamps.{Stamp, part}
 use Rattle.lr_value.specs.Applied.{Memory}
 use Rattle.lr_value.specs.Remembered.{AreSeen, Recalls, is_among, is_at}

@@ -4,9 +4,9 @@ use Rattle.std.proofs.Common.{Some, arith, subst, ap}
 use Rattle.std.specs.Prelude.{insert, not, remove, slice_get, Result, Ok, Err, IfOk}
 use Rattle.std.specs.Borrow.{Bor}
 use Rattle.std.proofs.lemmas.List.Edits.{length-insert}
+use Rattle.lr_base.specs.Ascending.{is_before}
 use Rattle.lr_base.specs.Orders.{IsAmong}
 use Rattle.lr_base.specs.Places.{AreInOrder}
-use Rattle.lr_base.specs.Rules.{is_before}
 use Rattle.lr_base.specs.Stamps.{Stamp, part, stamp_le}
 use Rattle.lr_base.specs.declared.messages.LogUpdate.{LogUpdate}
 use Rattle.lr_base.specs.declared.names.Spot.{Spot}

@@ -4,10 +4,11 @@ use Rattle.std.proofs.Common.{Some, None, true≢false}
 use Rattle.std.specs.Prelude.{remove, slice_get}
 use Rattle.std.specs.List.{AllByRecursion}
 use Rattle.std.specs.Option.{ForSome}
+use Rattle.lr_base.specs.Ascending.{is_before}
 use Rattle.lr_base.specs.declared.messages.LogUpdate.{LogUpdate}
 use Rattle.lr_base.specs.Insertion.{Ascends}
 use Rattle.lr_base.specs.Orders.{IsAmong}
-use Rattle.lr_base.specs.Rules.{is_before, is_covered, is_new, stamp_of}
+use Rattle.lr_base.specs.Rules.{is_covered, is_new, stamp_of}
 use Rattle.lr_base.specs.Stamps.{Stamp, stamp_le}
 use Rattle.lr_base.specs.StampLaws.{stamp_le-trans}
 use Rattle.lr_value.specs.Waiting.{AreLeft}

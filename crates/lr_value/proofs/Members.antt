@@ -3,10 +3,10 @@ use Rattle.std.proofs.Common.{◌≡◌, ◌↔◌, inl, inr, ℕ, suc, true, Li
 use Rattle.std.proofs.Common.{subst, true≢false, arith}
 use Rattle.std.specs.List.{AllByRecursion}
 use Rattle.std.specs.Borrow.{Bor}
+use Rattle.lr_base.specs.Ascending.{is_before}
 use Rattle.lr_base.specs.Logged.{AllFit, Fits}
 use Rattle.lr_base.specs.Orders.{IsAmong}
 use Rattle.lr_base.specs.Places.{AreInOrder}
-use Rattle.lr_base.specs.Rules.{is_before}
 use Rattle.lr_base.specs.declared.messages.LogUpdate.{LogUpdate}
 use Rattle.lr_value.specs.Table.{Has, IsHeld}
 use Rattle.lr_value.specs.declared.waiting.Blocked.{Blocked}

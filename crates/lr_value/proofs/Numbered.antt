@@ -7,13 +7,14 @@ use Rattle.std.specs.Prelude.{◌==◌, filter, nat_le, nat_lt, slice_get}
 use Rattle.std.specs.List.{AllByRecursion}
 use Rattle.std.specs.List.Sorted.{IsNonDecreasingBy}
 use Rattle.std.specs.Option.{ForSome}
+use Rattle.lr_base.specs.Ascending.{is_before}
 use Rattle.lr_base.specs.declared.messages.LogUpdate.{LogUpdate}
 use Rattle.lr_base.specs.declared.names.Spot.{Spot}
 use Rattle.lr_base.specs.Insertion.{Ascends}
 use Rattle.lr_base.specs.Logged.{AllFit, AllReceived}
 use Rattle.lr_base.specs.Places.{AreInOrder, items_at, up_to_place}
 use Rattle.lr_base.specs.PlaceLaws.{up_to_place-whole}
-use Rattle.lr_base.specs.Rules.{is_before, is_covered, is_new, waiting}
+use Rattle.lr_base.specs.Rules.{is_covered, is_new, waiting}
 use Rattle.lr_base.specs.Stamps.{Stamp}
 use Rattle.lr_value.specs.Remembered.{AreSeen}
 use Rattle.lr_value.specs.Waiting.{AreOfPlace}

@@ -1,12 +1,13 @@
 -- Tables of executed calls.
 use Rattle.std.proofs.Common.{◌≡◌, ◌∙◌, Bool, true, false, cond, List, length, None, Some, ap, refl, subst, sym, ℕ}
 use Rattle.std.specs.Option.{ForSome}
+use Rattle.lr_base.specs.Ascending.{same_cid}
 use Rattle.lr_base.specs.declared.names.Cid.{Cid}
 use Rattle.lr_base.specs.declared.messages.Known.{Known}
 use Rattle.lr_base.specs.CallLaws.{known_of-entered}
 use Rattle.lr_base.specs.Calls.{enter_call}
 use Rattle.lr_base.specs.NameLaws.{same_cid-is}
-use Rattle.lr_base.specs.Rules.{Progress, same_cid, known_of}
+use Rattle.lr_base.specs.Rules.{Progress, known_of}
 use Rattle.lr_base.specs.Logged.{AllKnown}
 use Rattle.lr_value.specs.Applied.{GoesOn}
 

@@ -3,9 +3,10 @@ use Rattle.std.proofs.Common.{◌≡◌, ◌≢◌, ◌⊎◌, ◌↔◌, inl, i
 use Rattle.std.proofs.Common.{Some, None, true≢false, arith}
 use Rattle.std.specs.Prelude.{filter, remove, slice_get}
 use Rattle.std.specs.Borrow.{Bor}
+use Rattle.lr_base.specs.Ascending.{is_before}
 use Rattle.lr_base.specs.Orders.{IsAmong}
 use Rattle.lr_base.specs.Meaning.{Meaning}
-use Rattle.lr_base.specs.Rules.{Progress, apply_one, is_before, take_ready}
+use Rattle.lr_base.specs.Rules.{Progress, apply_one, take_ready}
 use Rattle.lr_base.specs.Stamps.{Stamp, part, stamp_le}
 use Rattle.lr_base.specs.StampLaws.{parts-stamp_le, stamp_le-trans}
 use Rattle.lr_base.specs.declared.messages.LogUpdate.{LogUpdate}

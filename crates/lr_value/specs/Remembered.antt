@@ -1,9 +1,10 @@
 -- What a value remembers of a log, so that it needn't look through it again.
 use Rattle.std.specs.Prelude.{◌≡◌, ◌==◌, ◌&&◌, ◌||◌, ℕ, Bool, true, false, List, [], ◌∷◌, length, Some, slice_get}
 use Rattle.std.specs.Option.{ForSome, option_map}
+use Rattle.lr_base.specs.Ascending.{is_before}
 use Rattle.lr_base.specs.Insertion.{Ascends}
 use Rattle.lr_base.specs.Logged.{AllLogged, AllReceived}
-use Rattle.lr_base.specs.Rules.{is_before, is_covered, is_new}
+use Rattle.lr_base.specs.Rules.{is_covered, is_new}
 use Rattle.lr_base.specs.Stamps.{Stamp, stamp_le}
 use Rattle.lr_base.specs.declared.lr_service.Kind.{Kind}
 use Rattle.lr_base.specs.declared.messages.LogUpdate.{LogUpdate}
@@ -12,6 +13,7 @@ use Rattle.lr_value.specs.Applied.{Applied, Memory}
 use Rattle.lr_value.specs.Waiting.{NoneReady}
 
 -- whether two spots are one
+-- for example: `1:4` among `0:1`, `1:4`
 abbrev pub is_at : Spot → Spot → Bool
 is_at s spot = (s.place == spot.place) && (s.number == spot.number)
 
@@ -21,6 +23,7 @@ is_among [] spot = false
 is_among (s ∷ spots) spot = is_at s spot || is_among spots spot
 
 -- an update waits: its causes aren't applied, and its spot is among those that wait
+-- for example: `1:4` with the cause `0:1`
 pub record Waits {Op : Type 0} (val_ts : Stamp) (waits : List Spot) (u : LogUpdate Op) : Type 0 where
   pub blocked : stamp_le u.prev val_ts ≡ false
   pub listed : is_among waits u.spot ≡ true
@@ -35,6 +38,7 @@ abbrev pub Remembers : {Value Op : Type 0} → Applied Value → List (LogUpdate
 Remembers v updates = ForSome v.memory (Recalls v.val_ts updates)
 
 -- spots that wait stand in their order, and none is new where so much was seen
+-- for example: `1:4` where `[0, 4]` was seen
 pub record AreSeen (memory : Memory) : Type 0 where
   pub in_order : Ascends is_before memory.waits
   pub seen : (k : ℕ) → ForSome (slice_get memory.waits k) (λ s. is_new memory.seen s ≡ false)

@@ -1,10 +1,10 @@
 //! Updates that wait, each under what it waits for.
 ghost use Rattle.std.specs.Prelude.{ℕ, ◌≡◌, ◌∷◌, ◌+◌, ◌<◌, ◌≤◌, ◌⊎◌, ◌↔◌, ◌==◌, ◌&&◌, [], true, length, slice_get};
 ghost use Rattle.std.specs.Prelude.{IsNone, IfSome, IfOk, OnOk, Some, false, insert, nat_le, ◌≢◌};
+ghost use Rattle.lr_base.specs.Ascending.{is_before as spot_is_before};
 ghost use Rattle.lr_base.specs.Logged.{AllFit, Fits};
 ghost use Rattle.lr_base.specs.Orders.{IsAmong};
 ghost use Rattle.lr_base.specs.Places.{AreInOrder};
-ghost use Rattle.lr_base.specs.Rules.{is_before as spot_is_before};
 ghost use Rattle.lr_base.specs.Stamps.{part, stamp_le};
 ghost use Rattle.lr_value.specs.Table.{AreByNeed, Has, IsHeld, IsPlaceFor, IsPut, IsTable, IsTableBut};
 ghost use Rattle.lr_value.specs.Table.{Lacks, StandsAt, count_met, is_met as is_met_at};

@@ -11,10 +11,12 @@ use Rattle.lr_base.specs.Bytes.{Bytes}
 use Rattle.lr_words.specs.Tables.{Table}
 
 -- the table with a name's value made anew from the one that it has, if it has one
+-- for example: x raised by 3
 abbrev pub changed : {V : Type 0} → Table V → Bytes → (Option V → V) → Table V
 changed table name change = insert table name (change (get table name))
 
 -- whether two names are one, by their order
+-- for example: `a`, `a`
 abbrev pub same_name : Bytes → Bytes → Bool
 same_name = eq_by_cmp (slice_cmp nat_cmp)
 

@@ -1,5 +1,8 @@
 -- Exact tables: words, words in order, and tables of exact values are read as they were written, and written as they
 -- were read.
+-- Facts with their proofs, for the laws of services: tables of exact values are exact (`table-exact`; `word-exact`,
+-- `words-exact`), what is put in and taken out leaves tables, words in order stay in order, and texts are printable and
+-- short. Of definitions they have:
 use Rattle.std.proofs.Common.{◌≡◌, ◌<◌, ◌^◌, ◌==◌, ℕ, Bool, true, false, cond, ◌&&◌, nat_lt, nat_le, List, [], ◌∷◌}
 use Rattle.std.proofs.Common.{◌++◌, length, take, drop, refl, sym, ◌∙◌, ap, arith, length-append, append_assoc}
 use Rattle.std.specs.Prelude.{Option, Some, None, flat_map, T}

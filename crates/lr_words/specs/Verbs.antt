@@ -1,4 +1,4 @@
--- How operations are read of their texts: a verb, and behind a space what the verb asks for.
+-- To be believed: how operations are read of their texts: a verb, and behind a space what the verb asks for.
 use Rattle.std.specs.Prelude.{◌==◌, if◌then◌else◌, List, [], ◌∷◌, Option, Some, None}
 use Rattle.std.specs.Option.{option_and_then, option_map}
 use Rattle.std.specs.Str.{bytes_eq}

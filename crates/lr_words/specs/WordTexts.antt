@@ -7,6 +7,7 @@ use Rattle.lr_base.specs.Bytes.{Bytes}
 use Rattle.lr_words.specs.Word.{is_word, is_word_byte}
 
 -- no byte is a space
+-- for example: `bikes`
 abbrev pub HasNoSpace : Bytes → Type 0
 HasNoSpace text = (k : ℕ) → get_or text k 0 ≢ 32
 

@@ -2,10 +2,11 @@
 use Rattle.std.proofs.Common.{◌≡◌, ◌+◌, ◌<◌, ◌∙◌, ◌==◌, ℕ, suc, Bool, true, false, List, [], ◌∷◌, ◌++◌, length, Option, None, Some, lt-ltb, ltb-true, refl, subst, sym, ap, arith}
 use Rattle.std.specs.Prelude.{find, nat_lt}
 use Rattle.std.specs.Option.{ForSome}
+use Rattle.lr_base.specs.Ascending.{same_cid}
 use Rattle.lr_base.specs.Logged.{AllLogged, IsLogged}
 use Rattle.lr_base.specs.Meaning.{Meaning}
 use Rattle.lr_base.specs.Replicas.{ReplicaState}
-use Rattle.lr_base.specs.Rules.{CausalState, fresh_of, fresh_when, is_late, known_of, same_cid, stamp_of, taken_before, update_of_call}
+use Rattle.lr_base.specs.Rules.{CausalState, fresh_of, fresh_when, is_late, known_of, stamp_of, taken_before, update_of_call}
 use Rattle.lr_base.specs.StampLaws.{length-join, length-set_part}
 use Rattle.lr_base.specs.Stamps.{join, stamp_le}
 use Rattle.lr_base.specs.Steps.{answer_act, call_taken, done_act, gossip_given, has_number, has_room, held_acts, own_taken, query_held, query_taken, update_taken}

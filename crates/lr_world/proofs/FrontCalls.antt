@@ -1,8 +1,8 @@
 -- What a front end does with a call and with a reply.
 use Rattle.std.proofs.Common.{◌≡◌, ◌≢◌, ℕ, Bool, true, false, List, [], ◌∷◌, Option, None, Some, Result, Ok, Err, OnOk, refl, sym, ap, ◌∙◌, arith, true≢false}
 use Rattle.std.proofs.lemmas.Bool.Decides.{nat_tests}
+use Rattle.lr_base.specs.Ascending.{same_cid}
 use Rattle.lr_base.specs.Fronts.{FrontState, clock_read, front_on_call, is_open, reply_acts}
-use Rattle.lr_base.specs.Rules.{same_cid}
 use Rattle.lr_base.specs.declared.acts.Act.{Act}
 use Rattle.lr_base.specs.declared.acts.Act.TheVariants.{Say}
 use Rattle.lr_base.specs.declared.events.Outcome.TheVariants.{Got, Refuse, Stale}

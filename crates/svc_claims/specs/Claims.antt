@@ -1,4 +1,4 @@
--- Claims: names with an owner, the first that claimed them, and notes.
+-- To be believed: claims: names with an owner, the first that claimed them, and notes.
 use Rattle.std.specs.Prelude.{Bool, ◌&&◌, if◌then◌else◌, List, [], ◌∷◌, ◌++◌, is_some, unwrap_or, codes, refl}
 use Rattle.std.specs.Coded.{Coded, code_by, coded×, coded_list, coded_ℕ}
 use Rattle.std.specs.FinMap as map
@@ -15,11 +15,13 @@ use Rattle.svc_claims.specs.declared.op.ClaimsOp.{ClaimsOp}
 use Rattle.svc_claims.specs.declared.op.ClaimsOp.TheVariants.{Note, Claim, Clear, Who}
 
 -- the owner of each name that has one, and the notes of each name that has some
+-- for example: x is ann's, and has `b`
 pub record ClaimsValue : Type 0 where
   pub owners : Table Bytes
   pub notes : Table (List Bytes)
 
 -- notes are causal, claims are forced, clearing is immediate, and who asks
+-- for example: `claim x ann` is `Forced`
 abbrev pub claims_kind : ClaimsOp → Kind
 claims_kind (Note name word) = Causal
 claims_kind (Claim name who) = Forced
@@ -27,6 +29,7 @@ claims_kind (Clear name) = Immediate
 claims_kind (Who name) = Query
 
 -- the owners once someone claimed a name: the first claim stays
+-- for example: bob's claim after ann's changes nothing
 abbrev pub claimed : Table Bytes → Bytes → Bytes → Table Bytes
 claimed owners name who = if is_some (map.get owners name) then owners else map.insert owners name who
 
@@ -39,6 +42,7 @@ claims_apply v (Clear name) = record { owners = map.remove v.owners name; notes 
 claims_apply v (Who name) = v
 
 -- who answers the owner, or a dash where there is none, and behind a space the notes
+-- for example: `who x` answers `ann 1 b`
 abbrev pub claims_read : ClaimsValue → ClaimsOp → Bytes
 claims_read v (Note name word) = []
 claims_read v (Claim name who) = []
@@ -47,6 +51,7 @@ claims_read v (Who name) = unwrap_or (map.get v.owners name) (codes "-")
     ++ (codes " " ++ words_text (words_of v.notes name))
 
 -- names, notes and owners are words
+-- for example: `note x b`
 abbrev pub claims_is_op : ClaimsOp → Bool
 claims_is_op (Note name word) = is_word name && is_word word
 claims_is_op (Claim name who) = is_word name && is_word who
@@ -54,6 +59,7 @@ claims_is_op (Clear name) = is_word name
 claims_is_op (Who name) = is_word name
 
 -- the operation as it is written
+-- for example: `clear x`
 abbrev pub claims_text : ClaimsOp → Bytes
 claims_text (Note name word) = codes "note " ++ (name ++ (codes " " ++ word))
 claims_text (Claim name who) = codes "claim " ++ (name ++ (codes " " ++ who))

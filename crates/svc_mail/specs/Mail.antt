@@ -1,4 +1,4 @@
--- Mail: users with numbers, and boxes of words.
+-- To be believed: mail: users with numbers, and boxes of words.
 use Rattle.std.specs.Prelude.{ℕ, ◌+◌, ◌%◌, ◌^◌, Bool, ◌&&◌, List, [], ◌∷◌, ◌++◌, Option, Some, None, codes, refl}
 use Rattle.std.specs.Coded.{Coded, code_by, coded×, coded_list, coded_ℕ}
 use Rattle.std.specs.Fmt.{decimal}
@@ -16,12 +16,14 @@ use Rattle.svc_mail.specs.declared.op.MailOp.{MailOp}
 use Rattle.svc_mail.specs.declared.op.MailOp.TheVariants.{Send, Add, Delete, Read}
 
 -- the last number that was given, the number of each user, and the words sent to each name that has some
+-- for example: 1; ann is 1; ann has `hi`
 pub record MailValue : Type 0 where
   pub last : ℕ
   pub users : Table ℕ
   pub boxes : Table (List Bytes)
 
 -- sending is causal, adding a user is forced, deleting one is immediate, and reading asks
+-- for example: `add ann` is `Forced`
 abbrev pub mail_kind : MailOp → Kind
 mail_kind (Send user word) = Causal
 mail_kind (Add user) = Forced
@@ -29,6 +31,7 @@ mail_kind (Delete user) = Immediate
 mail_kind (Read user) = Query
 
 -- the number behind the last one, modulo 2^64
+-- for example: 2 behind 1
 abbrev pub next_number : MailValue → ℕ
 next_number v = (v.last + 1) % 2 ^ 64
 
@@ -49,11 +52,13 @@ mail_apply v (Delete user) = record { last = v.last; users = map.remove v.users 
 mail_apply v (Read user) = v
 
 -- a user's number in decimal, or a dash where there is none
+-- for example: `-`
 abbrev pub number_text : Option ℕ → Bytes
 number_text None = codes "-"
 number_text (Some number) = decimal number
 
 -- reading answers the user's number, and behind a space the words of its box
+-- for example: `read ann` answers `1 1 hi`
 abbrev pub mail_read : MailValue → MailOp → Bytes
 mail_read v (Send user word) = []
 mail_read v (Add user) = []
@@ -61,6 +66,7 @@ mail_read v (Delete user) = []
 mail_read v (Read user) = number_text (map.get v.users user) ++ (codes " " ++ words_text (words_of v.boxes user))
 
 -- users and what is sent are words
+-- for example: `send ann hi`
 abbrev pub mail_is_op : MailOp → Bool
 mail_is_op (Send user word) = is_word user && is_word word
 mail_is_op (Add user) = is_word user
@@ -68,6 +74,7 @@ mail_is_op (Delete user) = is_word user
 mail_is_op (Read user) = is_word user
 
 -- the operation as it is written
+-- for example: `delete ann`
 abbrev pub mail_text : MailOp → Bytes
 mail_text (Send user word) = codes "send " ++ (user ++ (codes " " ++ word))
 mail_text (Add user) = codes "add " ++ user

@@ -1,4 +1,4 @@
--- The tally: counters by name, to which operations add modulo 2^64.
+-- To be believed: the tally: counters by name, to which operations add modulo 2^64.
 use Rattle.std.specs.Prelude.{ℕ, ◌+◌, ◌%◌, ◌^◌, Bool, ◌&&◌, nat_lt, [], ◌∷◌, ◌++◌, unwrap_or, codes}
 use Rattle.std.specs.Coded.{Coded, coded_ℕ, coded_list}
 use Rattle.std.specs.Fmt.{decimal}
@@ -16,34 +16,41 @@ use Rattle.lr_words.specs.Tables.{Table, table_of}
 use Rattle.lr_words.specs.Verbs.{Verbs, one_word, op_in, word_and}
 
 -- a counter for each name that was added to
+-- for example: x is 3
 abbrev pub Counts : Type 0
 Counts = Table ℕ
 
 -- the counter of this name, or 0 where there is none
+-- for example: 0 of y
 abbrev pub count_of : Counts → Bytes → ℕ
 count_of counts name = unwrap_or (map.get counts name) 0
 
 -- adding is causal, reading is a query
+-- for example: `add x 3` is `Causal`
 abbrev pub tally_kind : TallyOp → Kind
 tally_kind (Add name amount) = Causal
 tally_kind (Read name) = Query
 
 -- adding raises the counter of the name, modulo 2^64
+-- for example: 2^64 - 1, and 3 more, is 2
 abbrev pub tally_apply : Counts → TallyOp → Counts
 tally_apply counts (Add name amount) = map.insert counts name ((count_of counts name + amount) % 2 ^ 64)
 tally_apply counts (Read name) = counts
 
 -- reading answers the counter in decimal
+-- for example: `read x` answers `3`
 abbrev pub tally_read : Counts → TallyOp → Bytes
 tally_read counts (Add name amount) = []
 tally_read counts (Read name) = decimal (count_of counts name)
 
 -- the name is a word, and the amount is below 2^64
+-- for example: `add x 3`
 abbrev pub tally_is_op : TallyOp → Bool
 tally_is_op (Add name amount) = is_word name && nat_lt amount (2 ^ 64)
 tally_is_op (Read name) = is_word name
 
 -- the operation as it is written
+-- for example: `add x 3`
 abbrev pub tally_text : TallyOp → Bytes
 tally_text (Add name amount) = codes "add " ++ (name ++ (codes " " ++ decimal amount))
 tally_text (Read name) = codes "read " ++ name
@@ -57,6 +64,7 @@ abbrev pub counts_code : Coded Counts
 counts_code = map.code (coded_list coded_ℕ) coded_ℕ
 
 -- how counters stand in bytes: their count, and then each name with its counter in 8 bytes, by name
+-- for example: `00000001 01 78 0000000000000003`
 abbrev pub tally_format : Format Counts
 tally_format = table_of number_format
 

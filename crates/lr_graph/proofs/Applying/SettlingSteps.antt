@@ -2,11 +2,12 @@
 use Rattle.std.proofs.Common.{◌≡◌, ℕ, zero, suc, ◌<◌, ◌≤◌, nat_lt, leb-true, le-leb, Bool, true, false, cond, ◌||◌, ◌⊎◌, inl, inr, List, [], ◌∷◌, ◌++◌, Some, None, is_some, refl, sym, ap, ◌∙◌, subst, true≢false, arith}
 use Rattle.std.proofs.lemmas.Bool.{lt-ltb}
 use Rattle.std.specs.Option.{option_or}
+use Rattle.lr_base.specs.Ascending.{is_before, same_cid}
 use Rattle.lr_base.specs.CallLaws.{some-entered}
 use Rattle.lr_base.specs.Calls.{enter_call}
 use Rattle.lr_base.specs.Meaning.{Meaning}
 use Rattle.lr_base.specs.Orders.{IsAmong}
-use Rattle.lr_base.specs.Rules.{Progress, apply_one, is_before, known_of, same_cid, stamp_of}
+use Rattle.lr_base.specs.Rules.{Progress, apply_one, known_of, stamp_of}
 use Rattle.lr_base.specs.StampLaws.{parts-stamp_le, stamp_le-parts, stamp_le-trans}
 use Rattle.lr_base.specs.Stamps.{join, part, stamp_le}
 use Rattle.lr_base.specs.declared.messages.Known.{Known}

@@ -2,10 +2,11 @@
 use Rattle.std.proofs.Common.{◌≡◌, ℕ, suc, Bool, true, false, cond, ◌||◌, ◌⊎◌, inl, inr, List, [], ◌∷◌, ◌++◌, length, filter, Option, Some, None, is_some, refl, sym, ap, ◌∙◌, subst, true≢false}
 use Rattle.std.proofs.lemmas.Option.{none-some}
 use Rattle.std.specs.Option.{option_map}
+use Rattle.lr_base.specs.Ascending.{is_before, same_cid}
 use Rattle.lr_base.specs.Orders.{IsAmong}
 use Rattle.lr_base.specs.CallLaws.{known_of-entered}
 use Rattle.lr_base.specs.Calls.{enter_call}
-use Rattle.lr_base.specs.Rules.{is_before, known_of, same_cid, take_ready}
+use Rattle.lr_base.specs.Rules.{known_of, take_ready}
 use Rattle.lr_base.specs.Stamps.{stamp_le}
 use Rattle.lr_base.specs.declared.messages.Known.{Known}
 use Rattle.lr_base.specs.declared.messages.LogUpdate.{LogUpdate}

@@ -1,11 +1,11 @@
 -- Every order of a set's acceptances that agrees where kinds need one order gives the set's value, and the order of making is one.
 use Rattle.std.proofs.Common.{◌≡◌, ◌≢◌, ℕ, Bool, true, false, cond, not, ◌&&◌, ◌||◌, if◌then◌else◌, ◌⊎◌, inl, inr, List, [], ◌∷◌, ◌++◌, filter, map, refl, sym, ap, ◌∙◌, subst, true≢false}
+use Rattle.lr_base.specs.Ascending.{same_cid}
 use Rattle.lr_base.specs.Kinds.{IsUpdate, are_ordered, is_query}
 use Rattle.lr_base.specs.Events.{IsEventOf}
 use Rattle.lr_base.specs.Meaning.{Lawful, Meaning}
 use Rattle.lr_base.specs.OrderLaws.{apply_all-behind, before-first, before-second, one-value, ordered-opposites}
 use Rattle.lr_base.specs.Orders.{AgreeWhereOrdered, AreUpdates, HasEachOnce, HasSameUpdates, IsAmong, Keyed, apply_all}
-use Rattle.lr_base.specs.Rules.{same_cid}
 use Rattle.lr_base.specs.declared.events.Step.{Step}
 use Rattle.lr_base.specs.declared.lr_service.Kind.{Kind}
 use Rattle.lr_base.specs.declared.names.Cid.{Cid}

@@ -1,8 +1,8 @@
 -- The least spot of a call in a log is the first that is found there.
 use Rattle.std.proofs.Common.{◌≡◌, Bool, true, false, cond, ◌⊎◌, inl, inr, find, List, [], ◌∷◌, Option, Some, None, refl, sym, ap, ◌∙◌, true≢false}
 use Rattle.std.specs.Option.{option_map}
+use Rattle.lr_base.specs.Ascending.{is_before, same_cid}
 use Rattle.lr_base.specs.Orders.{IsAmong}
-use Rattle.lr_base.specs.Rules.{is_before, same_cid}
 use Rattle.lr_base.specs.declared.messages.LogUpdate.{LogUpdate}
 use Rattle.lr_base.specs.declared.names.Cid.{Cid}
 use Rattle.lr_base.specs.declared.names.Spot.{Spot}

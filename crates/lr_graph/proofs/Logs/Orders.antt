@@ -1,9 +1,10 @@
 -- Logs in the order of spots.
 use Rattle.std.proofs.Common.{◌≡◌, suc, ◌<◌, ◌≤◌, ◌≢◌, Bool, true, false, cond, ◌&&◌, ◌⊎◌, ◌==◌, inl, inr, nat_lt, List, refl, sym, ap, ◌∙◌, arith, eqb-true, eq-eqb, le-leb, leb-true, true≢false}
 pub use Rattle.lr_base.specs.NameLaws.{before-apart, before-trans, behind-shown}
+use Rattle.lr_base.specs.Ascending.{is_before}
 use Rattle.lr_base.specs.Orders.{IsAmong}
 use Rattle.lr_base.specs.InsertionLaws.{among-inserted, ascends-inserted, each-inserted}
-use Rattle.lr_base.specs.Rules.{is_before, insert_update}
+use Rattle.lr_base.specs.Rules.{insert_update}
 use Rattle.lr_base.specs.declared.messages.LogUpdate.{LogUpdate}
 use Rattle.lr_base.specs.declared.names.Spot.{Spot}
 use Rattle.lr_graph.specs.Closed.{Each}

@@ -1,10 +1,10 @@
 -- What answers and replies to updates say, where they are sent and where they are taken.
 use Rattle.std.proofs.Common.{◌≡◌, ◌^◌, ℕ, suc, ◌==◌, Bool, true, false, cond, find, inl, inr, List, [], ◌∷◌, ◌++◌}
 use Rattle.std.proofs.Common.{Option, Some, None, refl, sym, ap, ◌∙◌, subst, arith}
+use Rattle.lr_base.specs.Ascending.{same_cid}
 use Rattle.lr_base.specs.Kinds.{is_query}
 use Rattle.lr_base.specs.Meaning.{Lawful, Meaning}
 use Rattle.lr_base.specs.Orders.{IsAmong}
-use Rattle.lr_base.specs.Rules.{same_cid}
 use Rattle.lr_base.specs.declared.events.Event.{Event}
 use Rattle.lr_base.specs.declared.events.Event.TheVariants.{Call, Deliver, Gossip as GossipEvent, Show}
 use Rattle.lr_base.specs.declared.events.Outcome.{Outcome}

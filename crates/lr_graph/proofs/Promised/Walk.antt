@@ -3,10 +3,11 @@ use Rattle.std.proofs.Common.{◌≡◌, ◌^◌, ℕ, suc, ◌<◌, max, Bool, 
 use Rattle.std.proofs.Common.{List, [], ◌∷◌, ◌++◌, length, Option, Some, None, refl, sym, ap, ◌∙◌, subst, arith}
 use Rattle.std.proofs.lemmas.List.{append_assoc}
 use Rattle.std.specs.Option.{option_map}
+use Rattle.lr_base.specs.Ascending.{same_cid}
 use Rattle.lr_base.specs.Kinds.{is_query}
 use Rattle.lr_base.specs.Meaning.{Meaning}
 use Rattle.lr_base.specs.Orders.{IsAmong}
-use Rattle.lr_base.specs.Rules.{known_of, same_cid}
+use Rattle.lr_base.specs.Rules.{known_of}
 use Rattle.lr_base.specs.declared.acts.Posted.{Posted}
 use Rattle.lr_base.specs.declared.events.Event.{Event}
 use Rattle.lr_base.specs.declared.events.Event.TheVariants.{Call, Deliver, Gossip as GossipEvent, Show}

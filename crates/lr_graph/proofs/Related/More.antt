@@ -1,8 +1,9 @@
 -- What goes on to hold where one acceptance more was made.
 use Rattle.std.proofs.Common.{◌≡◌, ℕ, Bool, true, false, cond, not, ◌&&◌, ◌||◌, inr, List, [], ◌∷◌, refl, sym, ap, ◌∙◌, subst, true≢false}
 use Rattle.std.specs.List.{list_any}
+use Rattle.lr_base.specs.Ascending.{same_cid}
 use Rattle.lr_base.specs.Meaning.{Meaning}
-use Rattle.lr_base.specs.Rules.{CausalState, same_cid}
+use Rattle.lr_base.specs.Rules.{CausalState}
 use Rattle.lr_base.specs.declared.messages.Call.{Call}
 use Rattle.lr_base.specs.declared.messages.Known.{Known}
 use Rattle.lr_base.specs.declared.messages.LogUpdate.{LogUpdate}

@@ -2,13 +2,14 @@
 use Rattle.std.proofs.Common.{◌≡◌, ◌<◌, ◌≤◌, ◌+◌, ◌==◌, ℕ, true, false, List, [], ◌∷◌, length, find, Option, Some, None}
 use Rattle.std.specs.List.{slice_get}
 use Rattle.std.specs.Option.{option_map}
+use Rattle.lr_base.specs.Ascending.{same_cid}
 use Rattle.lr_base.specs.Calls.{AreByCall}
 use Rattle.lr_base.specs.Fronts.{FrontState}
 use Rattle.lr_base.specs.Kinds.{IsUpdate, has_rules}
 use Rattle.lr_base.specs.Meaning.{Meaning}
 use Rattle.lr_base.specs.Orders.{IsAmong}
 use Rattle.lr_base.specs.Replicas.{ReplicaState}
-use Rattle.lr_base.specs.Rules.{CausalState, same_cid}
+use Rattle.lr_base.specs.Rules.{CausalState}
 use Rattle.lr_base.specs.Stamps.{part}
 use Rattle.lr_base.specs.declared.acts.Posted.{Posted}
 use Rattle.lr_base.specs.declared.messages.Call.{Call}

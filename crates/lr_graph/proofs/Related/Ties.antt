@@ -1,11 +1,12 @@
 -- How a replica's state and its part of the graph belong together.
 use Rattle.std.proofs.Common.{◌≡◌, ◌<◌, true, false, List, Some, is_some}
 use Rattle.std.specs.Option.{option_map}
+use Rattle.lr_base.specs.Ascending.{is_before}
 use Rattle.lr_base.specs.Insertion.{Ascends}
 use Rattle.lr_base.specs.Kinds.{IsUpdate, are_ordered}
 use Rattle.lr_base.specs.Meaning.{Meaning}
 use Rattle.lr_base.specs.Orders.{IsAmong}
-use Rattle.lr_base.specs.Rules.{CausalState, is_before, known_of, stamp_of}
+use Rattle.lr_base.specs.Rules.{CausalState, known_of, stamp_of}
 use Rattle.lr_base.specs.Stamps.{part, stamp_le}
 use Rattle.lr_base.specs.declared.messages.Known.{Known}
 use Rattle.lr_base.specs.declared.messages.LogUpdate.{LogUpdate}

@@ -1,9 +1,10 @@
 -- What a message itself does at a replica is the same in the graph and by the rules.
 use Rattle.std.proofs.Common.{◌≡◌, ◌≢◌, ℕ, suc, ◌+◌, ◌<◌, ◌^◌, Bool, true, false, cond, nat_lt, find, List, [], ◌∷◌, length, Option, Some, None, refl, sym, ap, ◌∙◌, subst, arith, true≢false, leb-true}
 use Rattle.std.specs.Option.{option_map}
+use Rattle.lr_base.specs.Ascending.{same_cid}
 use Rattle.lr_base.specs.Kinds.{IsUpdate, has_rules}
 use Rattle.lr_base.specs.Meaning.{Meaning}
-use Rattle.lr_base.specs.Rules.{CausalState, fresh_of, fresh_when, is_late, known_of, same_cid, stamp_of, taken_before}
+use Rattle.lr_base.specs.Rules.{CausalState, fresh_of, fresh_when, is_late, known_of, stamp_of, taken_before}
 use Rattle.lr_base.specs.Stamps.{part, stamp_le}
 use Rattle.lr_base.specs.Steps.{Ending, call_taken, has_number, has_room, own_taken, query_held, query_taken, update_taken}
 use Rattle.lr_base.specs.declared.events.Outcome.{Outcome}

@@ -3,8 +3,8 @@ use Rattle.std.proofs.Common.{◌≡◌, Bool, true, false, cond, ◌&&◌, ◌|
 use Rattle.std.specs.List.{list_any}
 use Rattle.std.proofs.lemmas.Option.{none-some}
 use Rattle.std.specs.Option.{option_or}
+use Rattle.lr_base.specs.Ascending.{same_cid, is_before}
 use Rattle.lr_base.specs.Orders.{IsAmong}
-use Rattle.lr_base.specs.Rules.{same_cid, is_before}
 use Rattle.lr_base.specs.declared.names.Cid.{Cid}
 use Rattle.lr_base.specs.declared.names.Spot.{Spot}
 use Rattle.lr_graph.specs.Graph.{Acceptance, Kept, has_call, keep_new, keep_one, kept_spot, least_spot}

@@ -1,12 +1,12 @@
 -- The executed calls that a state line lists, in the graph and by the rules.
 use Rattle.std.proofs.Common.{◌≡◌, Bool, true, false, cond, not, ◌⊎◌, inl, inr, List, [], ◌∷◌, map, Some, None, is_some, refl, sym, ap, ◌∙◌, true≢false, arith}
 use Rattle.std.proofs.lemmas.Bool.Decides.{nat_tests}
-use Rattle.lr_base.specs.Ascending.{cid_before}
+use Rattle.lr_base.specs.Ascending.{cid_before, same_cid}
 use Rattle.lr_base.specs.Calls.{AreByCall}
 use Rattle.lr_base.specs.Orders.{IsAmong}
 use Rattle.lr_base.specs.InsertionLaws.{among-inserted, ascends-inserted, each-inserted}
 use Rattle.lr_base.specs.NameLaws.{cid-apart, cid-neither, cid-trans, same_cid-is, same_cid-self}
-use Rattle.lr_base.specs.Rules.{known_of, same_cid}
+use Rattle.lr_base.specs.Rules.{known_of}
 use Rattle.lr_base.specs.declared.messages.Known.{Known}
 use Rattle.lr_base.specs.declared.names.Cid.{Cid}
 use Rattle.lr_base.specs.declared.names.Spot.{Spot}

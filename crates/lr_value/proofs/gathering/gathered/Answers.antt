@@ -1,7 +1,8 @@
 use Rattle.std.proofs.Common.{◌≡◌, ◌==◌, ◌∙◌, ◌++◌, ℕ, List, ap, sym, length, false, arith, not, subst}
+use Rattle.lr_base.specs.Ascending.{is_before}
 use Rattle.lr_base.specs.Logged.{Fits}
 use Rattle.lr_base.specs.Places.{AreInOrder, up_to_place}
-use Rattle.lr_base.specs.Rules.{is_before, is_covered, is_new, waiting}
+use Rattle.lr_base.specs.Rules.{is_covered, is_new, waiting}
 use Rattle.lr_value.specs.Remembered.{Waits}
 use Rattle.lr_value.proofs.Gathered.{ascends-filter}
 use Rattle.lr_value.proofs.Numbered.{gathered-more, gathered-whole, index-filter, of_place-items, order-whole}

@@ -1,6 +1,6 @@
 use Rattle.std.proofs.Common.{rules}
 use Rattle.std.proofs.lemmas.List.Sorted.{IsPartitionPoint-from_clause}
-use Rattle.lr_base.specs.Rules.{is_before}
+use Rattle.lr_base.specs.Ascending.{is_before}
 use Rattle.lr_value.proofs.Placed.{parted-spots, place-point}
 use Rattle.lr_value.proofs.waiting.place_by_spot.Goals as goal
 

@@ -1,6 +1,7 @@
 use Rattle.std.proofs.Common.{◌∙◌, ap, sym, cond, Some}
+use Rattle.lr_base.specs.Ascending.{same_cid}
 use Rattle.lr_base.specs.Calls.{enter_call}
-use Rattle.lr_base.specs.Rules.{known_of, same_cid}
+use Rattle.lr_base.specs.Rules.{known_of}
 use Rattle.lr_causal.proofs.Tables.{by_call-inserted, lookup-known_of}
 use Rattle.lr_causal.proofs.calls.CallTable.insert.Goals as goal
 

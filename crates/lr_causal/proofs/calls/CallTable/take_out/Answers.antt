@@ -1,5 +1,5 @@
 use Rattle.std.proofs.Common.{◌∙◌, ◌∷◌, [], ap, sym, cond, None}
-use Rattle.lr_base.specs.Rules.{same_cid}
+use Rattle.lr_base.specs.Ascending.{same_cid}
 use Rattle.lr_causal.specs.Tables.{without}
 use Rattle.lr_causal.proofs.Tables.{by_call-removed, lookup-known_of}
 use Rattle.lr_causal.proofs.calls.CallTable.take_out.Goals as goal

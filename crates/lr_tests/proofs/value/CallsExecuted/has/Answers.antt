@@ -1,6 +1,6 @@
 use Rattle.std.proofs.Common.{◌∙◌, sym, ap, is_some}
 use Rattle.std.specs.Prelude.{find}
-use Rattle.lr_base.specs.Rules.{same_cid}
+use Rattle.lr_base.specs.Ascending.{same_cid}
 use Rattle.lr_tests.proofs.Lists.{found_known, some-copied}
 use Rattle.lr_tests.proofs.value.CallsExecuted.has.Goals as goal
 

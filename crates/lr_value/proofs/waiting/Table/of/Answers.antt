@@ -1,7 +1,7 @@
 use Rattle.std.proofs.Common.{◌≡◌, ◌<◌, true, [], inl, length, refl, arith}
 use Rattle.std.proofs.lemmas.Option.{slice_get_read}
 use Rattle.std.proofs.lemmas.List.Edits.{length-remove}
-use Rattle.lr_base.specs.Rules.{is_before}
+use Rattle.lr_base.specs.Ascending.{is_before}
 use Rattle.lr_base.specs.Stamps.{stamp_le}
 use Rattle.lr_value.specs.Table.{Lacks}
 use Rattle.lr_value.specs.Waiting.{behind}
