@@ -1,6 +1,5 @@
--- To be believed: limits: how much of each thing there may be, in the program's constants. Each is pinned to its numeral.
--- How much of each thing there may be, in the program's constants. Each is pinned to its numeral by a fact
--- (`most_replicas-is`, and so on).
+-- To be believed: how much of each thing there may be, in the program's constants. Each is pinned to its numeral by a
+-- fact.
 use Rattle.std.specs.Prelude.{◌≡◌, ◌+◌, ◌^◌, ℕ, refl}
 use Rattle.lr_base.specs.declared.limits.TheConstants.{MOST_REPLICAS, MOST_CLIENTS, MOST_PARTS, LOG_ROOM, HELD_ROOM}
 use Rattle.lr_base.specs.declared.limits.TheConstants.{ORDER_ROOM, MOST_SCRIPT_BYTES, LAST_NUMBER}

@@ -1,6 +1,6 @@
 -- The causal rules of a replica, as functions of its state.
 -- What one replica does with causal operations, as functions of its state.
-use Rattle.std.specs.Prelude.{ℕ, ◌+◌, find, filter, get_or, length, set, not, zero, suc, replicate, Bool, ◌&&◌, ◌||◌}
+use Rattle.std.specs.Prelude.{ℕ, ◌+◌, find, filter, get_or, length, set, not, zero, suc, replicate, Bool}
 use Rattle.std.specs.Prelude.{◌==◌, nat_lt, if◌then◌else◌, List, [], ◌∷◌, ◌++◌, Option, Some, None, is_some}
 use Rattle.std.specs.Option.{option_map, option_map_or}
 use Rattle.lr_base.specs.Ascending.{is_before, same_cid}
