@@ -7,6 +7,7 @@ pub mod Worked
 pub mod Runs
 pub mod Made
 pub mod Closed
+pub mod Listed
 pub mod Names
 pub mod Central
 pub mod Orderings

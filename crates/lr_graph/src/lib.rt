@@ -3,6 +3,7 @@
 
 mod facts;
 mod laws;
+mod listed;
 mod promises;
 mod slow;
 mod worked;
@@ -12,6 +13,7 @@ pub use laws::{
     legal_histories_are_one, ready_is_the_greatest_closed_set, runs_are_legal,
     sending_changes_the_messages_alone, stamps_stand_for_sets, what_is_made_is_legal,
 };
+pub use listed::{listed_are_the_members, the_least_spot_is_kept};
 pub use promises::{
     answers_are_read_after_what_is_ready, causes_come_first, clients_read_their_writes,
     one_round_of_gossip_is_enough, reads_are_monotonic, replicas_converge,

@@ -9,6 +9,7 @@ use Rattle.lr_base.specs.declared.names.Cid.{Cid}
 use Rattle.lr_base.specs.declared.names.Spot.{Spot}
 use Rattle.lr_graph.specs.Graph.{Acceptance, Kept, has_call, keep_new, keep_one, kept_spot, least_spot}
 use Rattle.lr_graph.specs.Sets.{SpotSet, lesser}
+use Rattle.lr_base.specs.NameLaws.{before-apart, before-trans}
 use Rattle.lr_graph.proofs.Lists.Members.{among-list_any}
 use Rattle.lr_graph.proofs.Lists.Tests.{and-intro, and-left, and-right, never, before-once, same_cid-is, same_cid-self}
 use Rattle.lr_graph.proofs.Sets.Values.{has_call-holds, holds-has_call}
@@ -85,6 +86,47 @@ module _ {Op : Type 0} where
               chosen true = one
               chosen false = refl
           by_order (inr before) = ap (λ t. Some (cond t b.spot a.spot)) (before-once a.spot b.spot before)
+
+-- a spot isn't before itself
+apart-self : (spot : Spot) → is_before spot spot ≡ false
+apart-self spot = never _ (λ own. before-apart spot spot own refl)
+
+-- no spot of the call comes before the least one
+abbrev pub IsLeast : Option Spot → Spot → Type 0
+IsLeast None spot = ⊥
+IsLeast (Some least) spot = is_before spot least ≡ false
+
+module _ {Op : Type 0} where
+  pub least_spot-least : (l : List (Acceptance Op)) (x : SpotSet) (cid : Cid) (a : Acceptance Op) → IsAmong a l
+      → x a.spot ≡ true → a.cid ≡ cid → IsLeast (least_spot l x cid) a.spot
+  least_spot-least [] x cid a member here own = absurd member
+  least_spot-least (b ∷ l) x cid a (inl e) here own =
+      let test : (x b.spot && same_cid cid b.cid) ≡ true =
+        ap (λ (c : Acceptance Op). x c.spot && same_cid cid c.cid) (sym e)
+        ∙ and-intro (x a.spot) _ here (ap (same_cid cid) own ∙ same_cid-self cid) in
+      rw test (by_others (least_spot l x cid))
+    where
+      spot : a.spot ≡ b.spot
+      spot = ap (λ (c : Acceptance Op). c.spot) e
+
+      by_others : (o : Option Spot) → IsLeast (lesser b.spot o) a.spot
+      by_others None = ap (λ s. is_before s b.spot) spot ∙ apart-self b.spot
+      by_others (Some s) = by_order (is_before b.spot s) refl
+        where
+          by_order : (t : Bool) → is_before b.spot s ≡ t → is_before a.spot (cond t b.spot s) ≡ false
+          by_order true before = ap (λ s. is_before s b.spot) spot ∙ apart-self b.spot
+          by_order false after = ap (λ z. is_before z s) spot ∙ after
+  least_spot-least (b ∷ l) x cid a (inr member) here own =
+      by_test (x b.spot && same_cid cid b.cid) (least_spot l x cid) (least_spot-least l x cid a member here own)
+    where
+      by_test : (t : Bool) (o : Option Spot) → IsLeast o a.spot → IsLeast (cond t (lesser b.spot o) o) a.spot
+      by_test false o least = least
+      by_test true None least = absurd least
+      by_test true (Some s) least = by_order (is_before b.spot s) refl
+        where
+          by_order : (t : Bool) → is_before b.spot s ≡ t → is_before a.spot (cond t b.spot s) ≡ false
+          by_order false after = least
+          by_order true before = never _ (λ own. true≢false (sym (before-trans a.spot b.spot s own before) ∙ least))
 
 -- ---- the spots that are kept
 

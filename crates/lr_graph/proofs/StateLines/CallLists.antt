@@ -64,7 +64,7 @@ module _ (cid : Cid) where
       by_test x false other e = grind (arith, nat_tests)
 
 module _ {Op : Type 0} where
-  each-calls_of : (P : Cid → Type 0) (l : List (Acceptance Op)) (x : SpotSet) → Each (λ a. x a.spot ≡ true → P a.cid) l → Each P (calls_of l x)
+  pub each-calls_of : (P : Cid → Type 0) (l : List (Acceptance Op)) (x : SpotSet) → Each (λ a. x a.spot ≡ true → P a.cid) l → Each P (calls_of l x)
   each-calls_of P [] x h = tt
   each-calls_of P (a ∷ l) x h = at_head (x a.spot) refl (each-calls_of P l x h.1)
     where
@@ -72,7 +72,7 @@ module _ {Op : Type 0} where
       at_head true e rest = each-insert_call a.cid P (calls_of l x) (h.0 e) rest
       at_head false e rest = rest
 
-  among-calls_of : (l : List (Acceptance Op)) (x : SpotSet) (a : Acceptance Op) → IsAmong a l → x a.spot ≡ true → IsAmong a.cid (calls_of l x)
+  pub among-calls_of : (l : List (Acceptance Op)) (x : SpotSet) (a : Acceptance Op) → IsAmong a l → x a.spot ≡ true → IsAmong a.cid (calls_of l x)
   among-calls_of [] x a member here = absurd member
   among-calls_of (b ∷ l) x a (inl e) here = at_head (x b.spot) (ap (λ (c : Acceptance Op). x c.spot) (sym e) ∙ here)
     where
@@ -85,7 +85,7 @@ module _ {Op : Type 0} where
       at_head true rest = among-insert_call b.cid a.cid (calls_of l x) (inr rest)
       at_head false rest = rest
 
-  ascends-calls_of : (l : List (Acceptance Op)) (x : SpotSet) → Ascends cid_before (calls_of l x)
+  pub ascends-calls_of : (l : List (Acceptance Op)) (x : SpotSet) → Ascends cid_before (calls_of l x)
   ascends-calls_of [] x = tt
   ascends-calls_of (a ∷ l) x = at_head (x a.spot) (ascends-calls_of l x)
     where

@@ -33,7 +33,7 @@ module _ (spot : Spot) where
 
 module _ {Op : Type 0} where
   -- each listed spot is that of an acceptance of the set
-  each-spots_of : (P : Spot → Type 0) (l : List (Acceptance Op)) (g : SpotSet) → Each (λ a. g a.spot ≡ true → P a.spot) l → Each P (spots_of l g)
+  pub each-spots_of : (P : Spot → Type 0) (l : List (Acceptance Op)) (g : SpotSet) → Each (λ a. g a.spot ≡ true → P a.spot) l → Each P (spots_of l g)
   each-spots_of P [] g h = tt
   each-spots_of P (a ∷ l) g h = at_head (g a.spot) refl (each-spots_of P l g h.1)
     where
@@ -41,7 +41,7 @@ module _ {Op : Type 0} where
       at_head true e rest = each-insert_spot a.spot P (spots_of l g) (h.0 e) rest
       at_head false e rest = rest
 
-  among-spots_of : (l : List (Acceptance Op)) (g : SpotSet) (a : Acceptance Op) → IsAmong a l → g a.spot ≡ true → IsAmong a.spot (spots_of l g)
+  pub among-spots_of : (l : List (Acceptance Op)) (g : SpotSet) (a : Acceptance Op) → IsAmong a l → g a.spot ≡ true → IsAmong a.spot (spots_of l g)
   among-spots_of [] g a member here = absurd member
   among-spots_of (b ∷ l) g a (inl e) here = at_head (g b.spot) (ap (λ (c : Acceptance Op). g c.spot) (sym e) ∙ here)
     where
@@ -54,7 +54,7 @@ module _ {Op : Type 0} where
       at_head true rest = among-insert_spot b.spot a.spot (spots_of l g) (inr rest)
       at_head false rest = rest
 
-  ascends-spots_of : (l : List (Acceptance Op)) (g : SpotSet) → HasApartSpots l → Ascends is_before (spots_of l g)
+  pub ascends-spots_of : (l : List (Acceptance Op)) (g : SpotSet) → HasApartSpots l → Ascends is_before (spots_of l g)
   ascends-spots_of [] g apart = tt
   ascends-spots_of (a ∷ l) g apart = at_head (g a.spot) (ascends-spots_of l g apart.1)
     where
