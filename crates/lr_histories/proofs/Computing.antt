@@ -6,7 +6,7 @@ use Rattle.std.specs.Cmp.Lexicographic.{nat_list_cmp_total, slice_cmp}
 use Rattle.std.specs.FinMap.{get, get-empty, get-insert, get-remove, insert, remove}
 use Rattle.std.specs.Fmt.{decimal, digits, digits_onto}
 use Rattle.std.specs.Ordering.{eq_by_cmp, nat_cmp}
-use Rattle.lr_base.specs.Bytes.{Bytes, Good}
+use Rattle.lr_base.specs.Bytes.{Bytes}
 use Rattle.lr_base.specs.Meaning.{Meaning}
 use Rattle.lr_base.specs.declared.lr_service.Kind.{Kind}
 use Rattle.lr_words.specs.Formats.{insert_word, with_word, words_of, words_text}
@@ -61,9 +61,7 @@ told_by kind start apply read = record {
   read = read;
   is_op = λ op. true;
   text = λ op. [];
-  is_value = λ v. true;
-  spelling = λ v. [];
-  decoded = λ bytes. Good start;
+  op_of = λ text. None;
 }
 
 -- the tally over look-ups

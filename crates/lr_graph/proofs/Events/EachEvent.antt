@@ -4,7 +4,7 @@ use Rattle.std.proofs.lemmas.List.{append-nil}
 use Rattle.std.specs.List.{slice_get}
 use Rattle.lr_base.specs.Events.{IsEventOf}
 use Rattle.lr_base.specs.Fronts.{FrontState, front_on_message}
-use Rattle.lr_base.specs.Meaning.{Lawful, Meaning}
+use Rattle.lr_base.specs.Meaning.{Encoding, Lawful, Meaning}
 use Rattle.lr_base.specs.Replicas.{ReplicaState}
 use Rattle.lr_base.specs.Rules.{gossip_of}
 use Rattle.lr_base.specs.Steps.{gossiped, own_taken, taken}
@@ -40,7 +40,7 @@ pub record IsSameStep {Value Op : Type 0} (m : Meaning Value Op) (config : Confi
   pub lines : s.outcomes ≡ outcomes_of m config w event
   pub same : IsSame m config (after m config w (record { event = event; outcomes = outcomes_of m config w event })) s.run
 
-module _ {Value Op : Type 0} (m : Meaning Value Op) (kind_of : Op → Kind) (lawful : Lawful m kind_of) (config : Config) where
+module _ {Value Op : Type 0} (m : Meaning Value Op) {e : Encoding Value} (kind_of : Op → Kind) (lawful : Lawful m e kind_of) (config : Config) where
   -- ---- a message is delivered
 
   module _ (w : Facts Op) (v : RunState Value Op) (same : IsSame m config w v) where

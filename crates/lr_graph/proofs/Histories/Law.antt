@@ -4,7 +4,7 @@ use Rattle.std.specs.List.{slice_get}
 use Rattle.std.proofs.lemmas.List.{length-append}
 use Rattle.lr_base.specs.Fronts.{new_front}
 use Rattle.lr_base.specs.Events.{IsEventOf}
-use Rattle.lr_base.specs.Meaning.{Lawful, Meaning}
+use Rattle.lr_base.specs.Meaning.{Encoding, Lawful, Meaning}
 use Rattle.lr_base.specs.Replicas.{first_replica}
 use Rattle.lr_base.specs.Rules.{first_state}
 use Rattle.lr_base.specs.Stamps.{part}
@@ -141,7 +141,7 @@ module _ {Value Op : Type 0} (m : Meaning Value Op) (config : Config) where
 
 -- ---- the law
 
-module _ {Value Op : Type 0} (m : Meaning Value Op) (kind_of : Op → Kind) (lawful : Lawful m kind_of) (config : Config) where
+module _ {Value Op : Type 0} (m : Meaning Value Op) {e : Encoding Value} (kind_of : Op → Kind) (lawful : Lawful m e kind_of) (config : Config) where
   -- what is made from a run is legal after the facts that belong to it, and the facts and the run after it belong together
   made-same : (steps : List (Step Op)) (w : Facts Op) (v run : RunState Value Op) → IsMadeFrom m config v steps run → IsSame m config w v → LegalFrom m config w steps × IsSame m config (facts_after m config w steps) run
   made-same [] w v run made same = (tt, subst (IsSame m config w) made same)

@@ -3,7 +3,7 @@ use Rattle.std.proofs.Common.{◌≡◌, ◌≢◌, ℕ, Bool, true, false, cond
 use Rattle.lr_base.specs.Ascending.{same_cid}
 use Rattle.lr_base.specs.Kinds.{IsUpdate, are_ordered, is_query}
 use Rattle.lr_base.specs.Events.{IsEventOf}
-use Rattle.lr_base.specs.Meaning.{Lawful, Meaning}
+use Rattle.lr_base.specs.Meaning.{Encoding, Lawful, Meaning}
 use Rattle.lr_base.specs.OrderLaws.{apply_all-behind, before-first, before-second, one-value, ordered-opposites}
 use Rattle.lr_base.specs.Orders.{AgreeWhereOrdered, AreUpdates, HasEachOnce, HasSameUpdates, IsAmong, Keyed, apply_all}
 use Rattle.lr_base.specs.declared.events.Step.{Step}
@@ -146,7 +146,7 @@ module _ {Value Op : Type 0} (m : Meaning Value Op) where
       by_test false e = e
 
   -- an order of a set that agrees where kinds need one order gives the set's value
-  pub agreeing-value : (kind_of : Op → Kind) → Lawful m kind_of → (l : List (Acceptance Op)) (x : SpotSet) (order : List (Acceptance Op)) → HasOneCall l → Each (λ a. IsUpdate (m.kind a.op)) l
+  pub agreeing-value : {e : Encoding Value} (kind_of : Op → Kind) → Lawful m e kind_of → (l : List (Acceptance Op)) (x : SpotSet) (order : List (Acceptance Op)) → HasOneCall l → Each (λ a. IsUpdate (m.kind a.op)) l
       → IsOrderOf l x order → AgreeWhereOrdered m (first_calls order everything) (first_calls l x) → value m order everything ≡ value m l x
   agreeing-value kind_of lawful l x order one_call updates is agree =
       let same = same-updates l x order one_call is in
@@ -216,7 +216,7 @@ module _ {Op : Type 0} where
 
 -- ---- legal histories
 
-module _ {Value Op : Type 0} (m : Meaning Value Op) (kind_of : Op → Kind) (lawful : Lawful m kind_of) (config : Config) where
+module _ {Value Op : Type 0} (m : Meaning Value Op) {e : Encoding Value} (kind_of : Op → Kind) (lawful : Lawful m e kind_of) (config : Config) where
   events_fit : (steps : List (Step Op)) → Each (λ step. IsEventOf m config step.event) steps → Each (IsEventOf m config) (map (λ step. step.event) steps)
   events_fit [] fit = tt
   events_fit (step ∷ steps) fit = (fit.0, events_fit steps fit.1)

@@ -1,7 +1,7 @@
 -- In a legal history that calls operations of the service each answer is printable.
 use Rattle.std.proofs.Common.{◌≡◌, ◌^◌, ℕ, Bool, true, false, cond, ◌&&◌, ◌==◌, not, List, [], ◌∷◌, Option, Some, None, sym, subst}
 use Rattle.lr_base.specs.Kinds.{is_query}
-use Rattle.lr_base.specs.Meaning.{Lawful, Meaning, is_printable}
+use Rattle.lr_base.specs.Meaning.{Encoding, Lawful, Meaning, is_printable}
 use Rattle.lr_base.specs.declared.events.Event.{Event}
 use Rattle.lr_base.specs.declared.events.Event.TheVariants.{Call, Deliver, Gossip as GossipEvent, Show}
 use Rattle.lr_base.specs.declared.events.Outcome.{Outcome}
@@ -63,13 +63,13 @@ module _ {Value Op : Type 0} (m : Meaning Value Op) where
       sent true = tt
       sent false = tt
 
-module _ {Value Op : Type 0} (m : Meaning Value Op) (kind_of : Op → Kind) (lawful : Lawful m kind_of) where
+module _ {Value Op : Type 0} (m : Meaning Value Op) {e : Encoding Value} (kind_of : Op → Kind) (lawful : Lawful m e kind_of) where
   -- what operations make of the start is a value
-  value-is : (accepted : List (Acceptance Op)) (set : SpotSet) → Each (λ a. m.is_op a.op ≡ true) accepted → m.is_value (value m accepted set) ≡ true
+  value-is : (accepted : List (Acceptance Op)) (set : SpotSet) → Each (λ a. m.is_op a.op ≡ true) accepted → e.is_value (value m accepted set) ≡ true
   value-is [] set ops = lawful.start_is
   value-is (a ∷ older) set ops = split (set a.spot && not (has_call older set a.cid)) (value-is older set ops.1)
     where
-      split : (t : Bool) → m.is_value (value m older set) ≡ true → m.is_value (cond t (m.apply (value m older set) a.op) (value m older set)) ≡ true
+      split : (t : Bool) → e.is_value (value m older set) ≡ true → e.is_value (cond t (m.apply (value m older set) a.op) (value m older set)) ≡ true
       split true is = lawful.stays _ a.op is ops.0
       split false is = is
 

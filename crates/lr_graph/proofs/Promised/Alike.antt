@@ -1,7 +1,7 @@
 -- What is ready has its causes, and is the same where the same is received.
 use Rattle.std.proofs.Common.{◌≡◌, ℕ, true, List, sym, ap, ◌∙◌}
 use Rattle.lr_base.specs.Events.{IsEventOf}
-use Rattle.lr_base.specs.Meaning.{Lawful, Meaning}
+use Rattle.lr_base.specs.Meaning.{Encoding, Lawful, Meaning}
 use Rattle.lr_base.specs.Orders.{IsAmong}
 use Rattle.lr_base.specs.declared.events.Step.{Step}
 use Rattle.lr_base.specs.declared.lr_service.Kind.{Kind}
@@ -17,7 +17,7 @@ use Rattle.lr_graph.proofs.Lists.Tests.{same-test}
 use Rattle.lr_graph.proofs.Sets.ReadySets.{below-accepted, holds-ready, ready-closed, ready-holds}
 
 -- with each acceptance all that is below it is ready
-pub ready-causes : {Value Op : Type 0} (m : Meaning Value Op) (kind_of : Op → Kind) (lawful : Lawful m kind_of)
+pub ready-causes : {Value Op : Type 0} (m : Meaning Value Op) {e : Encoding Value} (kind_of : Op → Kind) (lawful : Lawful m e kind_of)
     (config : Config) (steps : List (Step Op)) → Each (λ step. IsEventOf m config step.event) steps
     → IsLegal m config steps
     → (i : ℕ) (a : Acceptance Op) → IsAmong a (facts_of m config steps).accepted

@@ -2,7 +2,7 @@
 use Rattle.std.proofs.Common.{◌≡◌, ℕ, suc, ◌<◌, Bool, true, false, cond, inl, inr, List, [], ◌∷◌, ◌++◌}
 use Rattle.std.proofs.Common.{Option, Some, None, refl, sym, ap, ◌∙◌, subst, arith}
 use Rattle.lr_base.specs.Kinds.{is_query}
-use Rattle.lr_base.specs.Meaning.{Lawful, Meaning}
+use Rattle.lr_base.specs.Meaning.{Encoding, Lawful, Meaning}
 use Rattle.lr_base.specs.Orders.{IsAmong}
 use Rattle.lr_base.specs.declared.events.Outcome.TheVariants.{Send, Refuse}
 use Rattle.lr_base.specs.declared.events.Refusal.{Refusal}
@@ -64,7 +64,7 @@ module _ {Value Op : Type 0} (m : Meaning Value Op) where
 
 -- ---- two steps of a history
 
-module _ {Value Op : Type 0} (m : Meaning Value Op) (kind_of : Op → Kind) (lawful : Lawful m kind_of)
+module _ {Value Op : Type 0} (m : Meaning Value Op) {e : Encoding Value} (kind_of : Op → Kind) (lawful : Lawful m e kind_of)
     (config : Config) where
   -- in a legal history, what a step does that takes a reply
   takes-taken : (before later : List (Step Op)) (step : Step Op) → IsLegal m config (before ++ step ∷ later)

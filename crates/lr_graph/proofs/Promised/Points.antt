@@ -1,7 +1,7 @@
 -- Points of legal histories, and what holds between an earlier and a later one.
 use Rattle.std.proofs.Common.{◌≡◌, ◌≤◌, List, [], ◌∷◌, ◌++◌, refl, sym, ap, ◌∙◌, subst, true≢false, arith}
 use Rattle.lr_base.specs.Events.{IsEventOf}
-use Rattle.lr_base.specs.Meaning.{Lawful, Meaning}
+use Rattle.lr_base.specs.Meaning.{Encoding, Lawful, Meaning}
 use Rattle.lr_base.specs.declared.events.Outcome.{Outcome}
 use Rattle.lr_base.specs.declared.events.Step.{Step}
 use Rattle.lr_base.specs.declared.lr_service.Kind.{Kind}
@@ -85,7 +85,7 @@ pub record IsPoint {Value Op : Type 0} (m : Meaning Value Op) (config : Config) 
 abbrev pub Fits : {Value Op : Type 0} → Meaning Value Op → Config → List (Step Op) → Type 0
 Fits m config steps = Each (λ step. IsEventOf m config step.event) steps
 
-module _ {Value Op : Type 0} (m : Meaning Value Op) (kind_of : Op → Kind) (lawful : Lawful m kind_of)
+module _ {Value Op : Type 0} (m : Meaning Value Op) {e : Encoding Value} (kind_of : Op → Kind) (lawful : Lawful m e kind_of)
     (config : Config) where
   abbrev Point : Facts Op → RunState Value Op → Type 0
   Point w v = IsPoint m config w v

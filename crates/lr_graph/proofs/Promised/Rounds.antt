@@ -5,7 +5,7 @@ use Rattle.std.proofs.Common.{true≢false}
 use Rattle.std.proofs.lemmas.List.Folds.{list_all-append}
 use Rattle.std.specs.List.{list_all}
 use Rattle.lr_base.specs.Events.{IsEventOf}
-use Rattle.lr_base.specs.Meaning.{Lawful, Meaning}
+use Rattle.lr_base.specs.Meaning.{Encoding, Lawful, Meaning}
 use Rattle.lr_base.specs.Orders.{IsAmong}
 use Rattle.lr_base.specs.declared.events.Event.{Event}
 use Rattle.lr_base.specs.declared.events.Event.TheVariants.{Deliver, Gossip as GossipEvent}
@@ -133,7 +133,7 @@ module _ {Value Op : Type 0} (m : Meaning Value Op) (config : Config) where
 
 -- ---- histories
 
-module _ {Value Op : Type 0} (m : Meaning Value Op) (kind_of : Op → Kind) (lawful : Lawful m kind_of)
+module _ {Value Op : Type 0} (m : Meaning Value Op) {e : Encoding Value} (kind_of : Op → Kind) (lawful : Lawful m e kind_of)
     (config : Config) where
   waits-step : (w : Facts Op) (v : RunState Value Op) → IsPoint m config w v → (step : Step Op)
       → IsEventOf m config step.event → step.outcomes ≡ outcomes_of m config w step.event

@@ -3,7 +3,7 @@ use Rattle.std.proofs.Common.{◌≡◌, ℕ, ◌<◌, ◌≤◌, ◌==◌, Bool
 use Rattle.std.proofs.Common.{Option, Some, None, refl, sym, ap, ◌∙◌, subst, subst₂, arith}
 use Rattle.lr_base.specs.Ascending.{same_cid}
 use Rattle.lr_base.specs.Events.{IsEventOf}
-use Rattle.lr_base.specs.Meaning.{Lawful, Meaning}
+use Rattle.lr_base.specs.Meaning.{Encoding, Lawful, Meaning}
 use Rattle.lr_base.specs.Orders.{IsAmong}
 use Rattle.lr_base.specs.declared.acts.Posted.{Posted}
 use Rattle.lr_base.specs.declared.events.Event.{Event}
@@ -172,7 +172,7 @@ module _ {Value Op : Type 0} (m : Meaning Value Op) (config : Config) (client k 
     (own, λ is. (let j = ap (calls_in w) is in let c = h.calls in omega arith)),
   )
 
-  module _ (kind_of : Op → Kind) (lawful : Lawful m kind_of) where
+  module _ {e : Encoding Value} (kind_of : Op → Kind) (lawful : Lawful m e kind_of) where
     told-step : (w : Facts Op) (v : RunState Value Op) → IsPoint m config w v → IsTold client k told w
         → (step : Step Op)
         → IsEventOf m config step.event → step.outcomes ≡ outcomes_of m config w step.event
@@ -229,7 +229,7 @@ started {Op} client told w closed h =
       (h.1, λ own. absurd (some_none c (sym at ∙ ap (λ j. (w.front j).open_call) own ∙ closed))),
     )
 
-module _ {Value Op : Type 0} (m : Meaning Value Op) (kind_of : Op → Kind) (lawful : Lawful m kind_of) (config : Config)
+module _ {Value Op : Type 0} (m : Meaning Value Op) {e : Encoding Value} (kind_of : Op → Kind) (lawful : Lawful m e kind_of) (config : Config)
     (w : Facts Op) (v : RunState Value Op) (p : IsPoint m config w v) where
   abbrev Same : SentMessage Op → Posted Op → Type 0
   Same x y = SameMessage m config w.accepted w.received p.same.issued (calls_in w) x y

@@ -3,7 +3,7 @@ use Rattle.std.proofs.Common.{◌≡◌, ◌^◌, ℕ, suc, ◌==◌, Bool, true
 use Rattle.std.proofs.Common.{Option, Some, None, refl, sym, ap, ◌∙◌, subst, arith}
 use Rattle.lr_base.specs.Ascending.{same_cid}
 use Rattle.lr_base.specs.Kinds.{is_query}
-use Rattle.lr_base.specs.Meaning.{Lawful, Meaning}
+use Rattle.lr_base.specs.Meaning.{Encoding, Lawful, Meaning}
 use Rattle.lr_base.specs.Orders.{IsAmong}
 use Rattle.lr_base.specs.declared.events.Event.{Event}
 use Rattle.lr_base.specs.declared.events.Event.TheVariants.{Call, Deliver, Gossip as GossipEvent, Show}
@@ -273,7 +273,7 @@ module _ {Value Op : Type 0} (m : Meaning Value Op) where
 
 -- ---- where a message is taken
 
-module _ {Value Op : Type 0} (m : Meaning Value Op) (kind_of : Op → Kind) (lawful : Lawful m kind_of) (config : Config)
+module _ {Value Op : Type 0} (m : Meaning Value Op) {e : Encoding Value} (kind_of : Op → Kind) (lawful : Lawful m e kind_of) (config : Config)
     (before between later : List (Step Op)) (sending taking : Step Op)
     (fits : Fits m config (before ++ sending ∷ between ++ taking ∷ later))
     (legal : IsLegal m config (before ++ sending ∷ between ++ taking ∷ later))
