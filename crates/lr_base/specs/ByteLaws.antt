@@ -11,6 +11,8 @@ use Rattle.std.proofs.lemmas.Bool.{le-ltb}
 use Rattle.std.proofs.lemmas.List.{take-append-drop, length-take-le}
 use Rattle.std.proofs.lemmas.List.Folds.{list_all-append}
 use Rattle.std.proofs.lemmas.Nat.{div-mul-add}
+use Rattle.std.specs.Str.{bytes_eq}
+use Rattle.std.proofs.lemmas.Slice.Eq.{bytes_eq-Decides}
 use Rattle.byteorder.specs.Endian.{big_from, big_number, big_bytes}
 use Rattle.byteorder.specs.Numbers.{big_from-append, big_from-cons, big_from-lt, big_from-take, big_number-reads_back}
 use Rattle.byteorder.specs.Numbers.{length-bytes_high_first}
@@ -18,6 +20,13 @@ use Rattle.lr_base.specs.Bytes.{Bytes, Reading, Found, Wrong, and_then, number_f
 use Rattle.lr_base.specs.Bytes.{count_bytes, times, each_may, are_bytes, IsExact}
 use Rattle.lr_base.specs.declared.bytes.BadWhat.{BadWhat}
 use Rattle.lr_base.specs.declared.bytes.BadWhat.TheVariants.{Range}
+
+-- bytes are the same where the test of it is passed, and only there
+pub same-bytes : (a b : Bytes) → bytes_eq a b ≡ true → a ≡ b
+same-bytes a b = (bytes_eq-Decides a b).0
+
+pub bytes-same : (a : Bytes) → bytes_eq a a ≡ true
+bytes-same a = (bytes_eq-Decides a a).1 refl
 
 -- the parts of bytes are bytes
 pub are_bytes-parts : (a b : Bytes) → are_bytes (a ++ b) ≡ true → (are_bytes a ≡ true) × (are_bytes b ≡ true)

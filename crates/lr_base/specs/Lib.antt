@@ -17,6 +17,9 @@ pub mod Limits
 pub mod Logged
 pub mod Meaning
 pub mod NameLaws
+pub mod NumberLaws
+pub mod Numbers
+pub mod OpLaws
 pub mod OrderLaws
 pub mod Orders
 pub mod PlaceLaws

@@ -2,7 +2,7 @@
 use Rattle.std.proofs.Common.{◌≡◌, ◌≢◌, ◌⊎◌, inl, inr, Bool, true, false, List, [], ◌∷◌, ◌++◌, refl, sym, ap, ◌∙◌}
 use Rattle.std.proofs.Common.{subst}
 use Rattle.lr_base.specs.Kinds.{are_ordered}
-use Rattle.lr_base.specs.Meaning.{Lawful, Meaning}
+use Rattle.lr_base.specs.Meaning.{Encoding, Lawful, Meaning}
 use Rattle.lr_base.specs.Orders.{AgreeUnlessCommuting, AgreeWhereOrdered, AreUpdates, Commute, HasEachOnce}
 use Rattle.lr_base.specs.Orders.{HasSameUpdates, IsAmong, IsBefore, Keyed, apply_all}
 use Rattle.lr_base.specs.declared.lr_service.Kind.{Kind}
@@ -167,7 +167,8 @@ module _ {Value Op Key : Type 0} (m : Meaning Value Op) where
       ]
 
   -- orders that agree where kinds need one order
-  pub ordered-opposites : (kind_of : Op → Kind) → Lawful m kind_of → (one other : List (Keyed Key Op))
+  pub ordered-opposites : {e : Encoding Value} (kind_of : Op → Kind) → Lawful m e kind_of
+      → (one other : List (Keyed Key Op))
       → HasSameUpdates one other → AreUpdates m one → AgreeWhereOrdered m one other → OppositesCommute m one other
   ordered-opposites kind_of lawful one other same updates agree a b first second =
       by_kinds (are_ordered (m.kind a.op) (m.kind b.op)) refl

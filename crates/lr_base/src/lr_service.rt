@@ -1,8 +1,8 @@
 //! What a service is: a value, operations on it, and the law that lets replicas apply them in different orders.
-ghost use Rattle.std.specs.Prelude.{ℕ, List, Option, ◌≡◌, ◌≢◌, ◌++◌, true, IfOk, OnOk, OnErr, IsErrOf};
+ghost use Rattle.std.specs.Prelude.{ℕ, ◌≡◌, ◌++◌, true, Some, None, IfOk, OnOk, OnErr, IsErrOf};
 ghost use Rattle.lr_base.specs.Bytes.{Decodes};
 ghost use Rattle.lr_base.specs.Kinds.{IsQuery, IsUpdate};
-ghost use Rattle.lr_base.specs.Meaning.{Meaning, Lawful, IsLegible, is_printable};
+ghost use Rattle.lr_base.specs.Meaning.{Encoding, Meaning, Lawful, is_printable};
 
 use crate::bytes::GetFault;
 pub use crate::orders::agreeing_orders_give_one_value;
@@ -46,8 +46,11 @@ pub trait Operation: Sized + Drop {
 pub trait Service: Sized + Drop {
     type Op: Operation;
 
-    /// What the operations mean, and how values are spelled.
+    /// What the operations mean, and how they are written.
     ghost meaning: { Meaning Self Self.Op };
+
+    /// How values stand in bytes.
+    ghost encoding: { Encoding Self };
 
     ghost NUMBER: { ℕ };
 
@@ -77,10 +80,12 @@ pub trait Service: Sized + Drop {
 
     /// The operation that is written so.
     fn read_op(alloc: Global, text: &[u8]) -> Result<Self::Op, OpFault>
-        ensures written { IfOk result (λ op. meaning.text op ≡ text.now) }
-        ensures real { IfOk result (λ op. meaning.is_op op ≡ true) }
-        ensures refused { IsErrOf result OpFault.NotAnOp
-            → (op : Self.Op) → meaning.is_op op ≡ true → meaning.text op ≢ text.now };
+        ensures found { IfOk result (λ op. meaning.op_of text.now ≡ Some op) }
+        ensures refused { IsErrOf result OpFault.NotAnOp → meaning.op_of text.now ≡ None };
+
+    /// Each operation that a program holds is the service's own. This function does nothing.
+    fn own_op(op: &Self::Op)
+        ensures { meaning.is_op op.now ≡ true };
 
     /// Adds the operation's one text behind `out`.
     fn print_op(op: &Self::Op, out: &mut Text) -> Result<(), NoMemory>
@@ -93,20 +98,12 @@ pub trait Service: Sized + Drop {
 
     /// Adds the value's one spelling behind `out`. Where there is no memory, part of it may stand there.
     fn put(&self, out: &mut Rows<u8>) -> Result<(), NoMemory>
-        ensures ok { OnOk result (out.new ≡ out.old ++ meaning.spelling self.now) }
-        ensures real { OnOk result (meaning.is_value self.now ≡ true) };
+        ensures ok { OnOk result (out.new ≡ out.old ++ encoding.spelling self.now) }
+        ensures real { OnOk result (encoding.is_value self.now ≡ true) };
 
     /// The value that is spelled so. Other bytes are refused at the first wrong field.
     fn get(alloc: Global, bytes: &[u8]) -> Result<Self, GetFault>
-        ensures { Decodes (meaning.decoded bytes.now) result };
+        ensures { Decodes (encoding.decoded bytes.now) result };
 
-    ghost lawful: { Lawful meaning Self.Op.kind_of };
-}
-
-/// A service whose operations' texts are read by a definition, so that clauses can say what a text is.
-pub trait Legible: Service {
-    /// The operation that is written so, if there is one.
-    ghost op_of: { List ℕ → Option Self.Op };
-
-    ghost legible: { IsLegible Self.meaning op_of };
+    ghost lawful: { Lawful meaning encoding Self.Op.kind_of };
 }

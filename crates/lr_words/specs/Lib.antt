@@ -4,6 +4,8 @@ pub mod TableLaws
 pub mod Tables
 pub mod TableValues
 pub mod TextLaws
+pub mod VerbLaws
+pub mod Verbs
 pub mod Word
 pub mod WordOrder
 pub mod WordTexts

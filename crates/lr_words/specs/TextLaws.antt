@@ -1,19 +1,19 @@
 -- What operations' texts and answers are made of is printable and short.
-use Rattle.std.proofs.Common.{◌≡◌, ◌≢◌, ◌<◌, ◌≤◌, ◌+◌, ◌/◌, ◌%◌, ◌^◌, ◌==◌, ℕ, zero, suc, Bool, true, false, ◌&&◌}
-use Rattle.std.proofs.Common.{nat_le, nat_lt, cond, List, [], ◌∷◌, ◌++◌, get_or, length, length-append, refl, sym}
-use Rattle.std.proofs.Common.{◌∙◌, ap, arith, le-leb, leb-true}
+use Rattle.std.proofs.Common.{◌≡◌, ◌<◌, ◌≤◌, ◌+◌, ◌/◌, ◌%◌, ◌^◌, ◌==◌, ℕ, zero, suc, Bool, true, false, ◌&&◌}
+use Rattle.std.proofs.Common.{nat_le, nat_lt, cond, List, [], ◌∷◌, ◌++◌, length, length-append, refl}
+use Rattle.std.proofs.Common.{◌∙◌, arith, le-leb, leb-true}
 use Rattle.std.specs.Prelude.{flat_map, OnOk, Result, Ok, Err}
 use Rattle.std.specs.Fmt.{decimal, digits, digits_onto, digit_glyph}
 use Rattle.std.specs.List.{list_all}
 use Rattle.std.proofs.Math.Nat.{mod-lt}
-use Rattle.std.proofs.lemmas.Bool.{and_parts, eq-eqb, lt-ltb}
+use Rattle.std.proofs.lemmas.Bool.{and_parts, lt-ltb}
 use Rattle.std.proofs.lemmas.Fmt.{length-decimal-le}
 use Rattle.std.proofs.lemmas.List.Folds.{list_all-append}
 use Rattle.lr_base.specs.Bytes.{Bytes}
 use Rattle.lr_base.specs.Meaning.{is_printable}
 use Rattle.lr_words.specs.Formats.{words_text}
 use Rattle.lr_words.specs.Word.{is_word, is_word_byte}
-use Rattle.lr_words.specs.WordTexts.{is_word-parts, same-front, word-no_space}
+use Rattle.lr_words.specs.WordTexts.{is_word-parts}
 
 -- digits are printable
 glyph-printable : (n : ℕ) (acc : Bytes) → is_printable acc ≡ true
@@ -95,14 +95,7 @@ pub words_text-printable : (words : List Bytes) → list_all is_word words ≡ t
 words_text-printable words all = append-printable (decimal (length words)) (flat_map (λ word. 32 ∷ word) words)
     (decimal-printable (length words)) (each-printable words all)
 
--- two words with a space between them are told apart
-pub two-words : (m a n b : Bytes) → (is_word m && is_word a) ≡ true → (is_word n && is_word b) ≡ true
-    → m ++ 32 ∷ a ≡ n ++ 32 ∷ b → (m ≡ n) × (a ≡ b)
-two-words m a n b first second same =
-    same-front m n a b (word-no_space m (and_parts (is_word m) (is_word a) first).0)
-    (word-no_space n (and_parts (is_word n) (is_word b) second).0) same
-
--- they are short
+-- two words with a space between them are short
 pub two-short : (a b : Bytes) → (is_word a && is_word b) ≡ true → length (a ++ 32 ∷ b) ≤ 33
 two-short a b is =
     let parts = and_parts (is_word a) (is_word b) is in
@@ -113,13 +106,6 @@ pub two-printable : (a b : Bytes) → (is_word a && is_word b) ≡ true → is_p
 two-printable a b is =
     let parts = and_parts (is_word a) (is_word b) is in
     append-printable a (32 ∷ b) (word-printable a parts.0) (word-printable b parts.1)
-
--- texts that differ at a byte aren't one
-pub apart-at : (a b : Bytes) (place : ℕ) → (get_or a place 0 == get_or b place 0) ≡ false → a ≢ b
-apart-at a b place differ = λ same.
-    let no : false ≡ true = sym differ
-    ∙ eq-eqb (get_or a place 0) (get_or b place 0) (ap (λ text. get_or text place 0) same) in
-    cc
 
 -- what was written is printable, where what it is made of was found to be words
 pub word-written : {T E : Type 0} (result : Result T E) (word : Bytes) → OnOk result (is_word word ≡ true)

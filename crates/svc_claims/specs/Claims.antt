@@ -1,14 +1,15 @@
 -- Claims: names with an owner, the first that claimed them, and notes.
-use Rattle.std.specs.Prelude.{Bool, ◌&&◌, if◌then◌else◌, List, [], ◌++◌, is_some, unwrap_or, codes, refl}
+use Rattle.std.specs.Prelude.{Bool, ◌&&◌, if◌then◌else◌, List, [], ◌∷◌, ◌++◌, is_some, unwrap_or, codes, refl}
 use Rattle.std.specs.Coded.{Coded, code_by, coded×, coded_list, coded_ℕ}
 use Rattle.std.specs.FinMap as map
 use Rattle.lr_base.specs.Bytes.{Bytes}
 use Rattle.lr_base.specs.declared.lr_service.Kind.{Kind}
 use Rattle.lr_base.specs.declared.lr_service.Kind.TheVariants.{Query, Causal, Forced, Immediate}
-use Rattle.lr_base.specs.Meaning.{Meaning}
+use Rattle.lr_base.specs.Meaning.{Encoding, Meaning}
 use Rattle.lr_words.specs.Formats.{word_format, words_format, words_of, words_text, with_word}
 use Rattle.lr_base.specs.Formats.{Format, both, decoded_in, renamed}
 use Rattle.lr_words.specs.Tables.{Table, table_of}
+use Rattle.lr_words.specs.Verbs.{Verbs, one_word, op_in, word_and, word_of_text}
 use Rattle.lr_words.specs.Word.{is_word}
 use Rattle.svc_claims.specs.declared.op.ClaimsOp.{ClaimsOp}
 use Rattle.svc_claims.specs.declared.op.ClaimsOp.TheVariants.{Note, Claim, Clear, Who}
@@ -59,6 +60,11 @@ claims_text (Claim name who) = codes "claim " ++ (name ++ (codes " " ++ who))
 claims_text (Clear name) = codes "clear " ++ name
 claims_text (Who name) = codes "who " ++ name
 
+-- a note takes a name and a word, a claim a name and who claims it, and all else takes a name
+abbrev pub claims_verbs : Verbs ClaimsOp
+claims_verbs = (codes "note", word_and word_of_text Note) ∷ (codes "claim", word_and word_of_text Claim)
+    ∷ (codes "clear", one_word Clear) ∷ (codes "who", one_word Who) ∷ []
+
 -- the two tables of a value
 abbrev pub tables_of : ClaimsValue → Table Bytes × Table (List Bytes)
 tables_of v = (v.owners, v.notes)
@@ -90,6 +96,12 @@ claims = record {
   read = claims_read;
   is_op = claims_is_op;
   text = claims_text;
+  op_of = op_in claims_verbs;
+}
+
+-- how values of claims are encoded
+abbrev pub claims_encoding : Encoding ClaimsValue
+claims_encoding = record {
   is_value = claims_format.is_value;
   spelling = claims_format.written;
   decoded = decoded_in claims_format;

@@ -1,5 +1,6 @@
 -- Claims keep the law of services.
-use Rattle.std.proofs.Common.{◌≡◌, ◌<◌, ◌≤◌, ◌^◌, Bool, true, false, cond, ◌∷◌, ◌++◌, length, refl, ap, arith}
+use Rattle.std.proofs.Common.{◌≡◌, ◌<◌, ◌≤◌, ◌^◌, Bool, true, false, cond, ◌∷◌, ◌++◌, length, refl, sym, ap}
+use Rattle.std.proofs.Common.{◌∙◌, arith}
 use Rattle.std.specs.Prelude.{Option, Some, None, is_some, unwrap_or, codes}
 use Rattle.std.specs.FinMap as map
 use Rattle.std.proofs.lemmas.Bool.{and_parts}
@@ -13,11 +14,13 @@ use Rattle.lr_words.specs.Tables.{Table, is_table, table_of}
 use Rattle.lr_words.specs.TableLaws.{table-exact, word-exact, words-exact}
 use Rattle.lr_words.specs.TableValues.{table-empty, table-get, table-insert, table-remove, table-with_word}
 use Rattle.lr_words.specs.TableValues.{with_word-commute, words_of-parts}
-use Rattle.lr_words.specs.TextLaws.{apart-at, append-printable, two-printable, two-short, two-words, word-printable}
+use Rattle.lr_words.specs.TextLaws.{append-printable, two-printable, two-short, word-printable}
 use Rattle.lr_words.specs.TextLaws.{word-short, words_text-printable}
+use Rattle.lr_words.specs.VerbLaws.{IsVerb, one_word-back, one_word-forth, op_in-back, two_words-back, two_words-forth}
+use Rattle.lr_words.specs.Verbs.{one_word, op_in, word_and, word_of_text}
 use Rattle.lr_words.specs.Word.{is_word}
-use Rattle.svc_claims.specs.Claims.{ClaimsValue, claims, claims_apply, claims_format, claims_is_op, claims_kind}
-use Rattle.svc_claims.specs.Claims.{claims_text, claimed, of_tables, tables_of}
+use Rattle.svc_claims.specs.Claims.{ClaimsValue, claims, claims_apply, claims_encoding, claims_format, claims_is_op}
+use Rattle.svc_claims.specs.Claims.{claims_kind, claims_text, claims_verbs, claimed, of_tables, tables_of}
 use Rattle.svc_claims.specs.declared.op.ClaimsOp.{ClaimsOp}
 use Rattle.svc_claims.specs.declared.op.ClaimsOp.TheVariants.{Note, Claim, Clear, Who}
 
@@ -37,34 +40,37 @@ commutes v (Who m) b first second free = let no : true ≡ false = first in cc
 commutes v (Note m a) (Who n) first second free = let no : true ≡ false = second in cc
 commutes v (Claim m a) (Who n) first second free = let no : true ≡ false = second in cc
 
--- operations with one text are one
-one_text-of : (a b : ClaimsOp) → claims_is_op a ≡ true → claims_is_op b ≡ true → claims_text a ≡ claims_text b → a ≡ b
-one_text-of (Note m a) (Note n b) first second same =
-    let rests : m ++ 32 ∷ a ≡ n ++ 32 ∷ b = cc in
-    let parts = two-words m a n b first second rests in
-    let names : m ≡ n = parts.0 in
-    let words : a ≡ b = parts.1 in
-    cc
-one_text-of (Claim m a) (Claim n b) first second same =
-    let rests : m ++ 32 ∷ a ≡ n ++ 32 ∷ b = cc in
-    let parts = two-words m a n b first second rests in
-    let names : m ≡ n = parts.0 in
-    let words : a ≡ b = parts.1 in
-    cc
-one_text-of (Clear m) (Clear n) first second same = let names : m ≡ n = cc in cc
-one_text-of (Who m) (Who n) first second same = let names : m ≡ n = cc in cc
-one_text-of (Note m a) (Claim n b) first second same = absurd (apart-at _ _ 0 refl same)
-one_text-of (Note m a) (Clear n) first second same = absurd (apart-at _ _ 0 refl same)
-one_text-of (Note m a) (Who n) first second same = absurd (apart-at _ _ 0 refl same)
-one_text-of (Claim m a) (Note n b) first second same = absurd (apart-at _ _ 0 refl same)
-one_text-of (Claim m a) (Clear n) first second same = absurd (apart-at _ _ 2 refl same)
-one_text-of (Claim m a) (Who n) first second same = absurd (apart-at _ _ 0 refl same)
-one_text-of (Clear m) (Note n b) first second same = absurd (apart-at _ _ 0 refl same)
-one_text-of (Clear m) (Claim n b) first second same = absurd (apart-at _ _ 2 refl same)
-one_text-of (Clear m) (Who n) first second same = absurd (apart-at _ _ 0 refl same)
-one_text-of (Who m) (Note n b) first second same = absurd (apart-at _ _ 0 refl same)
-one_text-of (Who m) (Claim n b) first second same = absurd (apart-at _ _ 0 refl same)
-one_text-of (Who m) (Clear n) first second same = absurd (apart-at _ _ 0 refl same)
+-- an operation's text is read as it
+forth-of : (op : ClaimsOp) → claims_is_op op ≡ true → op_in claims_verbs (claims_text op) ≡ Some op
+forth-of (Note name word) is = two_words-forth Note name word is
+forth-of (Claim name who) is = two_words-forth Claim name who is
+forth-of (Clear name) is = one_word-forth Clear name is
+forth-of (Who name) is = one_word-forth Who name is
+
+-- what is read behind each verb is written so
+note-back : IsVerb claims_text claims_is_op (codes "note") (word_and word_of_text Note)
+note-back rest op found =
+    let known = two_words-back Note rest op found in (
+      ap claims_text known.one ∙ ap (λ text. codes "note " ++ text) (sym known.written),
+      ap claims_is_op known.one ∙ known.is,
+    )
+
+claim-back : IsVerb claims_text claims_is_op (codes "claim") (word_and word_of_text Claim)
+claim-back rest op found =
+    let known = two_words-back Claim rest op found in (
+      ap claims_text known.one ∙ ap (λ text. codes "claim " ++ text) (sym known.written),
+      ap claims_is_op known.one ∙ known.is,
+    )
+
+clear-back : IsVerb claims_text claims_is_op (codes "clear") (one_word Clear)
+clear-back rest op found =
+    let known = one_word-back Clear rest op found in
+    (ap claims_text known.0, ap claims_is_op known.0 ∙ known.1)
+
+who-back : IsVerb claims_text claims_is_op (codes "who") (one_word Who)
+who-back rest op found =
+    let known = one_word-back Who rest op found in
+    (ap claims_text known.0, ap claims_is_op known.0 ∙ known.1)
 
 -- no text is empty
 some_text-of : (op : ClaimsOp) → 1 ≤ length (claims_text op)
@@ -88,13 +94,13 @@ printable_text-of (Clear name) is = word-printable name is
 printable_text-of (Who name) is = word-printable name is
 
 -- the parts of a value's test
-value-parts : (v : ClaimsValue) → claims.is_value v ≡ true → (is_table word_format v.owners ≡ true)
+value-parts : (v : ClaimsValue) → claims_encoding.is_value v ≡ true → (is_table word_format v.owners ≡ true)
     × (is_table words_format v.notes ≡ true)
 value-parts v is = and_parts (is_table word_format v.owners) (is_table words_format v.notes) is
 
 -- two tables make a value
 value-of : (v : ClaimsValue) → is_table word_format v.owners ≡ true → is_table words_format v.notes ≡ true
-    → claims.is_value v ≡ true
+    → claims_encoding.is_value v ≡ true
 value-of v owners notes = rw (owners, notes) refl
 
 -- a claim leaves a table of words
@@ -107,8 +113,8 @@ claimed-table owners name who all named is = go (is_some (map.get owners name))
     go false = table-insert word_format owners name who all named is
 
 -- operations leave values
-stays-of : (v : ClaimsValue) (op : ClaimsOp) → claims.is_value v ≡ true → claims_is_op op ≡ true
-    → claims.is_value (claims_apply v op) ≡ true
+stays-of : (v : ClaimsValue) (op : ClaimsOp) → claims_encoding.is_value v ≡ true → claims_is_op op ≡ true
+    → claims_encoding.is_value (claims_apply v op) ≡ true
 stays-of v (Note name word) value is =
     let tables = value-parts v value in
     let words = and_parts (is_word name) (is_word word) is in
@@ -133,7 +139,7 @@ owner-printable owners name all = go (map.get owners name) refl
     go (Some owner) is = word-printable owner (table-get word_format owners name owner all is)
 
 -- each answer is printable
-printable_answer-of : (v : ClaimsValue) (op : ClaimsOp) → claims.is_value v ≡ true
+printable_answer-of : (v : ClaimsValue) (op : ClaimsOp) → claims_encoding.is_value v ≡ true
     → is_printable (claims.read v op) ≡ true
 printable_answer-of v (Note name word) value = refl
 printable_answer-of v (Claim name who) value = refl
@@ -151,11 +157,12 @@ claims-exact = renamed-exact of_tables tables_of (both (table_of word_format) (t
     (table-exact words_format words-exact))
 
 -- notes commute with notes and claims, each operation has one short text, and each value one spelling
-pub claims_lawful : Lawful claims claims_kind
+pub claims_lawful : Lawful claims claims_encoding claims_kind
 claims_lawful = record {
   commute = commutes;
   kinds = λ op. refl;
-  one_text = one_text-of;
+  forth = forth-of;
+  back = op_in-back claims_text claims_is_op claims_verbs (note-back, (claim-back, (clear-back, (who-back, tt))));
   some_text = λ op is. some_text-of op;
   short_text = short_text-of;
   printable_text = printable_text-of;

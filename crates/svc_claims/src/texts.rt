@@ -108,3 +108,25 @@ pub(crate) fn put_op(op: &ClaimsOp, out: &mut Text) -> Result<(), NoMemory>
         }
     }
 }
+
+// Names, notes and owners are words. This function does nothing.
+pub(crate) fn own_op(op: &ClaimsOp)
+    ensures { claims_is_op op.now ≡ true }
+{
+    match op {
+        ClaimsOp::Note { name, word } => {
+            let _name = name.as_slice();
+            let _word = word.as_slice();
+        }
+        ClaimsOp::Claim { name, who } => {
+            let _name = name.as_slice();
+            let _who = who.as_slice();
+        }
+        ClaimsOp::Clear { name } => {
+            let _name = name.as_slice();
+        }
+        ClaimsOp::Who { name } => {
+            let _name = name.as_slice();
+        }
+    }
+}

@@ -7,7 +7,7 @@ ghost use Rattle.svc_claims.specs.declared.op.ClaimsOp.TheVariants as operation;
 ghost use Rattle.svc_claims.specs.Claims.{claims_apply, claims_format, claims_read};
 
 use crate::op::ClaimsOp;
-use crate::texts::{op_of, put_op};
+use crate::texts::{op_of, own_op, put_op};
 use lr_base::lr_service::{Kind, OpFault, Service};
 use lr_base::{FieldFault, GetFault, NoMemory, Rows, Text, decoded};
 use lr_words::{Table, Word, WordList, put_word};
@@ -96,12 +96,14 @@ impl Claims {
 }
 
 impl Service for Claims {
-    ghost use Rattle.svc_claims.specs.Claims.{claims};
+    ghost use Rattle.svc_claims.specs.Claims.{claims, claims_encoding};
     ghost use Rattle.svc_claims.specs.ClaimsLaw.{claims_lawful};
 
     type Op = ClaimsOp;
 
     ghost meaning = { claims };
+
+    ghost encoding = { claims_encoding };
 
     ghost NUMBER = { 3 };
 
@@ -155,6 +157,10 @@ impl Service for Claims {
             Some(op) => Ok(op),
             None => Err(OpFault::NotAnOp),
         }
+    }
+
+    fn own_op(op: &ClaimsOp) {
+        own_op(op)
     }
 
     fn print_op(op: &ClaimsOp, out: &mut Text) -> Result<(), NoMemory> {

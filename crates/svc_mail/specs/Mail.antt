@@ -1,15 +1,16 @@
 -- Mail: users with numbers, and boxes of words.
-use Rattle.std.specs.Prelude.{ℕ, ◌+◌, ◌%◌, ◌^◌, Bool, ◌&&◌, List, [], ◌++◌, Option, Some, None, codes, refl}
+use Rattle.std.specs.Prelude.{ℕ, ◌+◌, ◌%◌, ◌^◌, Bool, ◌&&◌, List, [], ◌∷◌, ◌++◌, Option, Some, None, codes, refl}
 use Rattle.std.specs.Coded.{Coded, code_by, coded×, coded_list, coded_ℕ}
 use Rattle.std.specs.Fmt.{decimal}
 use Rattle.std.specs.FinMap as map
 use Rattle.lr_base.specs.Bytes.{Bytes}
 use Rattle.lr_base.specs.declared.lr_service.Kind.{Kind}
 use Rattle.lr_base.specs.declared.lr_service.Kind.TheVariants.{Query, Causal, Forced, Immediate}
-use Rattle.lr_base.specs.Meaning.{Meaning}
+use Rattle.lr_base.specs.Meaning.{Encoding, Meaning}
 use Rattle.lr_words.specs.Formats.{words_format, words_of, words_text, with_word}
 use Rattle.lr_base.specs.Formats.{Format, both, decoded_in, number_format, renamed}
 use Rattle.lr_words.specs.Tables.{Table, table_of}
+use Rattle.lr_words.specs.Verbs.{Verbs, one_word, op_in, word_and, word_of_text}
 use Rattle.lr_words.specs.Word.{is_word}
 use Rattle.svc_mail.specs.declared.op.MailOp.{MailOp}
 use Rattle.svc_mail.specs.declared.op.MailOp.TheVariants.{Send, Add, Delete, Read}
@@ -73,6 +74,11 @@ mail_text (Add user) = codes "add " ++ user
 mail_text (Delete user) = codes "delete " ++ user
 mail_text (Read user) = codes "read " ++ user
 
+-- sending takes a user and a word, and all else takes a user
+abbrev pub mail_verbs : Verbs MailOp
+mail_verbs = (codes "send", word_and word_of_text Send) ∷ (codes "add", one_word Add)
+    ∷ (codes "delete", one_word Delete) ∷ (codes "read", one_word Read) ∷ []
+
 -- the number and the two tables of a value
 abbrev pub parts_of : MailValue → ℕ × (Table ℕ × Table (List Bytes))
 parts_of v = (v.last, (v.users, v.boxes))
@@ -104,6 +110,12 @@ mail = record {
   read = mail_read;
   is_op = mail_is_op;
   text = mail_text;
+  op_of = op_in mail_verbs;
+}
+
+-- how values of mail are encoded
+abbrev pub mail_encoding : Encoding MailValue
+mail_encoding = record {
   is_value = mail_format.is_value;
   spelling = mail_format.written;
   decoded = decoded_in mail_format;

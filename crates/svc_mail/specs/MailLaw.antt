@@ -1,7 +1,7 @@
 -- Mail keeps the law of services.
 use Rattle.std.proofs.Common.{◌≡◌, ◌<◌, ◌≤◌, ◌+◌, ◌^◌, ℕ, true, false, ◌&&◌, nat_lt, ◌∷◌, ◌++◌, length, refl, sym, ap}
-use Rattle.std.proofs.Common.{arith}
-use Rattle.std.specs.Prelude.{Option, Some, None}
+use Rattle.std.proofs.Common.{◌∙◌, arith}
+use Rattle.std.specs.Prelude.{Option, Some, None, codes}
 use Rattle.std.specs.FinMap as map
 use Rattle.std.proofs.Math.Nat.{mod-lt}
 use Rattle.std.proofs.lemmas.Bool.{and_parts, lt-ltb}
@@ -15,11 +15,13 @@ use Rattle.lr_words.specs.TableLaws.{table-exact, words-exact}
 use Rattle.lr_words.specs.Tables.{is_table, table_of}
 use Rattle.lr_words.specs.TableValues.{table-empty, table-insert, table-remove, table-with_word, with_word-commute}
 use Rattle.lr_words.specs.TableValues.{words_of-parts}
-use Rattle.lr_words.specs.TextLaws.{apart-at, append-printable, decimal-printable, two-printable, two-short}
-use Rattle.lr_words.specs.TextLaws.{two-words, word-printable, word-short, words_text-printable}
+use Rattle.lr_words.specs.TextLaws.{append-printable, decimal-printable, two-printable, two-short}
+use Rattle.lr_words.specs.TextLaws.{word-printable, word-short, words_text-printable}
+use Rattle.lr_words.specs.VerbLaws.{IsVerb, one_word-back, one_word-forth, op_in-back, two_words-back, two_words-forth}
+use Rattle.lr_words.specs.Verbs.{one_word, op_in, word_and, word_of_text}
 use Rattle.lr_words.specs.Word.{is_word}
-use Rattle.svc_mail.specs.Mail.{MailValue, mail, mail_apply, mail_format, mail_is_op, mail_kind, mail_text}
-use Rattle.svc_mail.specs.Mail.{next_number, number_text, of_parts, parts_of, with_user}
+use Rattle.svc_mail.specs.Mail.{MailValue, mail, mail_apply, mail_encoding, mail_format, mail_is_op, mail_kind}
+use Rattle.svc_mail.specs.Mail.{mail_text, mail_verbs, next_number, number_text, of_parts, parts_of, with_user}
 use Rattle.svc_mail.specs.declared.op.MailOp.{MailOp}
 use Rattle.svc_mail.specs.declared.op.MailOp.TheVariants.{Send, Add, Delete, Read}
 
@@ -45,29 +47,35 @@ commutes v (Read m) b first second free = let no : true ≡ false = first in cc
 commutes v (Send m a) (Read n) first second free = let no : true ≡ false = second in cc
 commutes v (Add m) (Read n) first second free = let no : true ≡ false = second in cc
 
--- operations with one text are one
-one_text-of : (a b : MailOp) → mail_is_op a ≡ true → mail_is_op b ≡ true → mail_text a ≡ mail_text b → a ≡ b
-one_text-of (Send m a) (Send n b) first second same =
-    let rests : m ++ 32 ∷ a ≡ n ++ 32 ∷ b = cc in
-    let parts = two-words m a n b first second rests in
-    let names : m ≡ n = parts.0 in
-    let words : a ≡ b = parts.1 in
-    cc
-one_text-of (Add m) (Add n) first second same = let names : m ≡ n = cc in cc
-one_text-of (Delete m) (Delete n) first second same = let names : m ≡ n = cc in cc
-one_text-of (Read m) (Read n) first second same = let names : m ≡ n = cc in cc
-one_text-of (Send m a) (Add n) first second same = absurd (apart-at _ _ 0 refl same)
-one_text-of (Send m a) (Delete n) first second same = absurd (apart-at _ _ 0 refl same)
-one_text-of (Send m a) (Read n) first second same = absurd (apart-at _ _ 0 refl same)
-one_text-of (Add m) (Send n b) first second same = absurd (apart-at _ _ 0 refl same)
-one_text-of (Add m) (Delete n) first second same = absurd (apart-at _ _ 0 refl same)
-one_text-of (Add m) (Read n) first second same = absurd (apart-at _ _ 0 refl same)
-one_text-of (Delete m) (Send n b) first second same = absurd (apart-at _ _ 0 refl same)
-one_text-of (Delete m) (Add n) first second same = absurd (apart-at _ _ 0 refl same)
-one_text-of (Delete m) (Read n) first second same = absurd (apart-at _ _ 0 refl same)
-one_text-of (Read m) (Send n b) first second same = absurd (apart-at _ _ 0 refl same)
-one_text-of (Read m) (Add n) first second same = absurd (apart-at _ _ 0 refl same)
-one_text-of (Read m) (Delete n) first second same = absurd (apart-at _ _ 0 refl same)
+-- an operation's text is read as it
+forth-of : (op : MailOp) → mail_is_op op ≡ true → op_in mail_verbs (mail_text op) ≡ Some op
+forth-of (Send user word) is = two_words-forth Send user word is
+forth-of (Add user) is = one_word-forth Add user is
+forth-of (Delete user) is = one_word-forth Delete user is
+forth-of (Read user) is = one_word-forth Read user is
+
+-- what is read behind each verb is written so
+send-back : IsVerb mail_text mail_is_op (codes "send") (word_and word_of_text Send)
+send-back rest op found =
+    let known = two_words-back Send rest op found in (
+      ap mail_text known.one ∙ ap (λ text. codes "send " ++ text) (sym known.written),
+      ap mail_is_op known.one ∙ known.is,
+    )
+
+add-back : IsVerb mail_text mail_is_op (codes "add") (one_word Add)
+add-back rest op found =
+    let known = one_word-back Add rest op found in
+    (ap mail_text known.0, ap mail_is_op known.0 ∙ known.1)
+
+delete-back : IsVerb mail_text mail_is_op (codes "delete") (one_word Delete)
+delete-back rest op found =
+    let known = one_word-back Delete rest op found in
+    (ap mail_text known.0, ap mail_is_op known.0 ∙ known.1)
+
+read-back : IsVerb mail_text mail_is_op (codes "read") (one_word Read)
+read-back rest op found =
+    let known = one_word-back Read rest op found in
+    (ap mail_text known.0, ap mail_is_op known.0 ∙ known.1)
 
 -- no text is empty
 some_text-of : (op : MailOp) → 1 ≤ length (mail_text op)
@@ -173,11 +181,12 @@ mail-exact =
 
 -- what is sent commutes with what is sent and with new users, each operation has one short text, and each value one
 -- spelling
-pub mail_lawful : Lawful mail mail_kind
+pub mail_lawful : Lawful mail mail_encoding mail_kind
 mail_lawful = record {
   commute = commutes;
   kinds = λ op. refl;
-  one_text = one_text-of;
+  forth = forth-of;
+  back = op_in-back mail_text mail_is_op mail_verbs (send-back, (add-back, (delete-back, (read-back, tt))));
   some_text = λ op is. some_text-of op;
   short_text = short_text-of;
   printable_text = printable_text-of;

@@ -104,3 +104,24 @@ pub(crate) fn put_op(op: &MailOp, out: &mut Text) -> Result<(), NoMemory>
         }
     }
 }
+
+// Users and what is sent are words. This function does nothing.
+pub(crate) fn own_op(op: &MailOp)
+    ensures { mail_is_op op.now ≡ true }
+{
+    match op {
+        MailOp::Send { user, word } => {
+            let _user = user.as_slice();
+            let _word = word.as_slice();
+        }
+        MailOp::Add { user } => {
+            let _user = user.as_slice();
+        }
+        MailOp::Delete { user } => {
+            let _user = user.as_slice();
+        }
+        MailOp::Read { user } => {
+            let _user = user.as_slice();
+        }
+    }
+}

@@ -7,7 +7,7 @@ ghost use Rattle.svc_mail.specs.declared.op.MailOp.TheVariants as operation;
 ghost use Rattle.svc_mail.specs.Mail.{mail_apply, mail_format, mail_read, number_text};
 
 use crate::op::MailOp;
-use crate::texts::{op_of, put_op};
+use crate::texts::{op_of, own_op, put_op};
 use lr_base::lr_service::{Kind, OpFault, Service};
 use lr_base::{
     FieldFault, GetFault, NoMemory, Rows, Text, decoded, number_field, put_number, put_number_field,
@@ -105,12 +105,14 @@ impl Mail {
 }
 
 impl Service for Mail {
-    ghost use Rattle.svc_mail.specs.Mail.{mail};
+    ghost use Rattle.svc_mail.specs.Mail.{mail, mail_encoding};
     ghost use Rattle.svc_mail.specs.MailLaw.{mail_lawful};
 
     type Op = MailOp;
 
     ghost meaning = { mail };
+
+    ghost encoding = { mail_encoding };
 
     ghost NUMBER = { 2 };
 
@@ -162,6 +164,10 @@ impl Service for Mail {
             Some(op) => Ok(op),
             None => Err(OpFault::NotAnOp),
         }
+    }
+
+    fn own_op(op: &MailOp) {
+        own_op(op)
     }
 
     fn print_op(op: &MailOp, out: &mut Text) -> Result<(), NoMemory> {

@@ -1,5 +1,5 @@
 -- The tally: counters by name, to which operations add modulo 2^64.
-use Rattle.std.specs.Prelude.{ℕ, ◌+◌, ◌%◌, ◌^◌, Bool, ◌&&◌, nat_lt, [], ◌++◌, unwrap_or, codes}
+use Rattle.std.specs.Prelude.{ℕ, ◌+◌, ◌%◌, ◌^◌, Bool, ◌&&◌, nat_lt, [], ◌∷◌, ◌++◌, unwrap_or, codes}
 use Rattle.std.specs.Coded.{Coded, coded_ℕ, coded_list}
 use Rattle.std.specs.Fmt.{decimal}
 use Rattle.std.specs.FinMap as map
@@ -9,9 +9,11 @@ use Rattle.lr_base.specs.declared.lr_service.Kind.TheVariants.{Query, Causal}
 use Rattle.svc_tally.specs.declared.op.TallyOp.{TallyOp}
 use Rattle.svc_tally.specs.declared.op.TallyOp.TheVariants.{Add, Read}
 use Rattle.lr_words.specs.Word.{is_word}
-use Rattle.lr_base.specs.Meaning.{Meaning}
+use Rattle.lr_base.specs.Meaning.{Encoding, Meaning}
 use Rattle.lr_base.specs.Formats.{Format, decoded_in, number_format}
+use Rattle.lr_base.specs.Numbers.{number_of_text}
 use Rattle.lr_words.specs.Tables.{Table, table_of}
+use Rattle.lr_words.specs.Verbs.{Verbs, one_word, op_in, word_and}
 
 -- a counter for each name that was added to
 abbrev pub Counts : Type 0
@@ -46,6 +48,10 @@ abbrev pub tally_text : TallyOp → Bytes
 tally_text (Add name amount) = codes "add " ++ (name ++ (codes " " ++ decimal amount))
 tally_text (Read name) = codes "read " ++ name
 
+-- adding takes a name and an amount, and reading a name
+abbrev pub tally_verbs : Verbs TallyOp
+tally_verbs = (codes "add", word_and number_of_text Add) ∷ (codes "read", one_word Read) ∷ []
+
 -- the proofs' code of counters, by which they tell them from others
 abbrev pub counts_code : Coded Counts
 counts_code = map.code (coded_list coded_ℕ) coded_ℕ
@@ -63,6 +69,12 @@ tally = record {
   read = tally_read;
   is_op = tally_is_op;
   text = tally_text;
+  op_of = op_in tally_verbs;
+}
+
+-- how counters are encoded
+abbrev pub tally_encoding : Encoding Counts
+tally_encoding = record {
   is_value = tally_format.is_value;
   spelling = tally_format.written;
   decoded = decoded_in tally_format;

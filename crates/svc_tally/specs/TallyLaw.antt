@@ -1,24 +1,26 @@
 -- The tally keeps the law of services.
-use Rattle.std.proofs.Common.{◌≡◌, ◌<◌, ◌≤◌, ◌+◌, ◌%◌, ◌^◌, ℕ, true, false, nat_lt, ◌∷◌, ◌++◌, length, get_or, refl}
+use Rattle.std.proofs.Common.{◌≡◌, ◌<◌, ◌≤◌, ◌+◌, ◌%◌, ◌^◌, ℕ, true, false, nat_lt, ◌∷◌, ◌++◌, length, refl}
 use Rattle.std.proofs.Common.{sym, ◌∙◌, ap, arith, length-append}
-use Rattle.std.specs.Prelude.{unwrap_or}
+use Rattle.std.specs.Prelude.{Some, codes, unwrap_or}
 use Rattle.std.specs.Fmt.{decimal}
 use Rattle.std.proofs.Math.Nat.{mod-add-mod, mod-lt}
-use Rattle.std.proofs.lemmas.Bool.{and_parts, ltb-true, lt-ltb}
-use Rattle.std.proofs.lemmas.Fmt.{decimal_injective}
+use Rattle.std.proofs.lemmas.Bool.{and_from, and_parts, ltb-true, lt-ltb}
 use Rattle.lr_base.specs.Bytes.{Bytes}
 use Rattle.lr_base.specs.Kinds.{IsUpdate}
 use Rattle.lr_base.specs.Meaning.{Lawful, is_printable}
 use Rattle.lr_words.specs.Changes.{changes-commute}
 use Rattle.lr_base.specs.Formats.{number_format}
 use Rattle.lr_base.specs.FormatLaws.{number_format-exact, spelled-in, one_spelling-in}
+use Rattle.lr_base.specs.NumberLaws.{number_of_text-back, number_of_text-forth}
+use Rattle.lr_base.specs.Numbers.{number_of_text}
 use Rattle.lr_words.specs.TableLaws.{table-exact}
 use Rattle.lr_words.specs.TableValues.{table-empty, table-insert}
 use Rattle.lr_words.specs.TextLaws.{append-printable, decimal-printable, decimal-short, word-printable, word-short}
 use Rattle.lr_words.specs.Word.{is_word}
-use Rattle.lr_words.specs.WordTexts.{same-front, word-no_space}
-use Rattle.svc_tally.specs.Tally.{Counts, count_of, tally, tally_apply, tally_format, tally_is_op, tally_kind}
-use Rattle.svc_tally.specs.Tally.{tally_text}
+use Rattle.lr_words.specs.VerbLaws.{IsVerb, one_word-back, one_word-forth, op_in-back, word_and-back, word_and-forth}
+use Rattle.lr_words.specs.Verbs.{one_word, op_in, word_and}
+use Rattle.svc_tally.specs.Tally.{Counts, count_of, tally, tally_apply, tally_encoding, tally_format, tally_is_op}
+use Rattle.svc_tally.specs.Tally.{tally_kind, tally_text, tally_verbs}
 use Rattle.svc_tally.specs.declared.op.TallyOp.{TallyOp}
 use Rattle.svc_tally.specs.declared.op.TallyOp.TheVariants.{Add, Read}
 
@@ -44,23 +46,28 @@ amount-fits name amount is =
     let parts = and_parts (is_word name) (nat_lt amount (2 ^ 64)) is in
     (parts.0, ltb-true amount (2 ^ 64) parts.1)
 
--- operations with one text are one
-one_text-of : (a b : TallyOp) → tally_is_op a ≡ true → tally_is_op b ≡ true → tally_text a ≡ tally_text b → a ≡ b
-one_text-of (Add m j) (Add n k) first second same =
-    let a = amount-fits m j first in
-    let b = amount-fits n k second in
-    let rests : m ++ 32 ∷ decimal j ≡ n ++ 32 ∷ decimal k = cc in
-    let parts = same-front m n (decimal j) (decimal k) (word-no_space m a.0) (word-no_space n b.0) rests in
-    let amounts : j ≡ k = decimal_injective j k a.1 b.1 parts.1 in
-    let names : m ≡ n = parts.0 in
-    cc
-one_text-of (Read m) (Read n) first second same = let names : m ≡ n = cc in cc
-one_text-of (Add m j) (Read n) first second same =
-    let heads : ◌≡◌ {A = ℕ} 97 114 = ap (λ text. get_or text 0 0) same in
-    absurd (omega arith)
-one_text-of (Read m) (Add n k) first second same =
-    let heads : ◌≡◌ {A = ℕ} 114 97 = ap (λ text. get_or text 0 0) same in
-    absurd (omega arith)
+-- an operation's text is read as it
+forth-of : (op : TallyOp) → tally_is_op op ≡ true → op_in tally_verbs (tally_text op) ≡ Some op
+forth-of (Add name amount) is =
+    let parts = amount-fits name amount is in
+    word_and-forth number_of_text Add name (decimal amount) amount parts.0 (number_of_text-forth amount parts.1)
+forth-of (Read name) is = one_word-forth Read name is
+
+-- what is read behind each verb is written so
+add-back : IsVerb tally_text tally_is_op (codes "add") (word_and number_of_text Add)
+add-back rest op found =
+    let known = word_and-back number_of_text Add rest op found in
+    let number = number_of_text-back known.rest known.thing known.read in (
+      ap tally_text known.one ∙ ap (λ digits. codes "add " ++ (known.word ++ 32 ∷ digits)) number.0
+          ∙ ap (λ text. codes "add " ++ text) (sym known.written),
+      ap tally_is_op known.one ∙ and_from (is_word known.word) (nat_lt known.thing (2 ^ 64)) known.is
+          (lt-ltb known.thing (2 ^ 64) number.1),
+    )
+
+read-back : IsVerb tally_text tally_is_op (codes "read") (one_word Read)
+read-back rest op found =
+    let known = one_word-back Read rest op found in
+    (ap tally_text known.0, ap tally_is_op known.0 ∙ known.1)
 
 -- no text is empty
 some_text-of : (op : TallyOp) → 1 ≤ length (tally_text op)
@@ -99,11 +106,12 @@ stays-of v (Add name amount) value is =
 stays-of v (Read name) value is = value
 
 -- additions commute, each operation has one short text, and counters one spelling
-pub tally_lawful : Lawful tally tally_kind
+pub tally_lawful : Lawful tally tally_encoding tally_kind
 tally_lawful = record {
   commute = λ v a b first second free. commutes v a b first second;
   kinds = λ op. refl;
-  one_text = one_text-of;
+  forth = forth-of;
+  back = op_in-back tally_text tally_is_op tally_verbs (add-back, (read-back, tt));
   some_text = λ op is. some_text-of op;
   short_text = short_text-of;
   printable_text = printable_text-of;

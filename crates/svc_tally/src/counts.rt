@@ -5,7 +5,7 @@ ghost use Rattle.svc_tally.specs.declared.op.TallyOp.TheVariants as operation;
 ghost use Rattle.svc_tally.specs.Tally.{count_of, tally_apply, tally_format};
 
 use crate::op::TallyOp;
-use crate::texts::{op_of, put_op};
+use crate::texts::{op_of, own_op, put_op};
 use lr_base::lr_service::{Kind, OpFault, Service};
 use lr_base::{FieldFault, GetFault, NoMemory, Rows, Text, decoded, put_number};
 use lr_words::{Table, Word};
@@ -56,12 +56,14 @@ impl Tally {
 }
 
 impl Service for Tally {
-    ghost use Rattle.svc_tally.specs.Tally.{tally};
+    ghost use Rattle.svc_tally.specs.Tally.{tally, tally_encoding};
     ghost use Rattle.svc_tally.specs.TallyLaw.{tally_lawful};
 
     type Op = TallyOp;
 
     ghost meaning = { tally };
+
+    ghost encoding = { tally_encoding };
 
     ghost NUMBER = { 1 };
 
@@ -104,6 +106,10 @@ impl Service for Tally {
             Some(op) => Ok(op),
             None => Err(OpFault::NotAnOp),
         }
+    }
+
+    fn own_op(op: &TallyOp) {
+        own_op(op)
     }
 
     fn print_op(op: &TallyOp, out: &mut Text) -> Result<(), NoMemory> {

@@ -74,3 +74,18 @@ pub(crate) fn put_op(op: &TallyOp, out: &mut Text) -> Result<(), NoMemory>
         }
     }
 }
+
+// A name is a word, and an amount is below 2^64. This function does nothing.
+pub(crate) fn own_op(op: &TallyOp)
+    ensures { tally_is_op op.now ≡ true }
+{
+    match op {
+        TallyOp::Add { name, amount } => {
+            let _word = name.as_slice();
+            let _number = *amount;
+        }
+        TallyOp::Read { name } => {
+            let _word = name.as_slice();
+        }
+    }
+}
