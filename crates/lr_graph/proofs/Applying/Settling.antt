@@ -1,7 +1,7 @@
 -- Applying all that is ready: the value, its stamp and the table are those of the ready set.
 use Rattle.std.proofs.Common.{◌≡◌, ℕ, zero, suc, ◌≤◌, Bool, true, false, not, inl, inr, List, [], ◌∷◌, length, Option, Some, None, is_some, refl, sym, ap, ◌∙◌, true≢false, arith}
 use Rattle.std.specs.Option.{option_map, option_map_or, option_or}
-use Rattle.lr_base.specs.Meaning.{Lawful, Meaning}
+use Rattle.lr_base.specs.Meaning.{Encoding, Lawful, Meaning}
 use Rattle.lr_base.specs.Orders.{IsAmong}
 use Rattle.lr_base.specs.Rules.{CausalState, Progress, applied as after_applying, apply_one, apply_ready, is_covered, known_of, progress_of, take_ready, waiting}
 use Rattle.lr_base.specs.Stamps.{stamp_le}
@@ -158,12 +158,12 @@ settling-start {Value} {Op} m l r g done kept state pending = record {
     waits u = not (is_covered state.val_ts u)
 
 -- acceptances of which none need one order commute
-all-commute : {Value Op : Type 0} (m : Meaning Value Op) (kind_of : Op → Kind) → Lawful m kind_of → (l : List (Acceptance Op)) → IsFree m l → Each (λ a. Each (λ b. Commute m a.op b.op) l) l
+all-commute : {Value Op : Type 0} (m : Meaning Value Op) {e : Encoding Value} (kind_of : Op → Kind) → Lawful m e kind_of → (l : List (Acceptance Op)) → IsFree m l → Each (λ a. Each (λ b. Commute m a.op b.op) l) l
 all-commute m kind_of lawful l free = each-from _ l (λ a in_a. each-from _ l (λ b in_b v.
     lawful.commute v a.op b.op (each-at _ a l free.updates in_a) (each-at _ b l free.updates in_b) (each-at _ b l (each-at _ a l free.unordered in_a) in_b)))
 
 -- after applying, the value, its stamp and the table are those of all that is ready
-pub settled : {Value Op : Type 0} (m : Meaning Value Op) (kind_of : Op → Kind) → Lawful m kind_of
+pub settled : {Value Op : Type 0} (m : Meaning Value Op) {e : Encoding Value} (kind_of : Op → Kind) → Lawful m e kind_of
     → (l : List (Acceptance Op)) (r g done : SpotSet) (kept : List Kept) (state : CausalState Value Op)
     → IsSound l → HasOneCall l → IsFree m l → IsPending m l r g done kept state
     → HasApplied m l (ready l r) (keep_new l (ready l r) l kept) (after_applying m state)

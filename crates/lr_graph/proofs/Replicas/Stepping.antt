@@ -4,7 +4,7 @@ use Rattle.std.proofs.lemmas.List.{append_assoc, length-append}
 use Rattle.std.proofs.lemmas.Option.{slice_get_within}
 use Rattle.std.specs.List.{slice_get}
 use Rattle.lr_base.specs.Kinds.{are_ordered, has_rules, is_forced, is_immediate}
-use Rattle.lr_base.specs.Meaning.{Lawful, Meaning}
+use Rattle.lr_base.specs.Meaning.{Encoding, Lawful, Meaning}
 use Rattle.lr_base.specs.Replicas.{ReplicaState}
 use Rattle.lr_base.specs.Rules.{CausalState, applied}
 use Rattle.lr_base.specs.Steps.{Ending, ended, held_acts}
@@ -85,7 +85,7 @@ pub record IsStep {Value Op : Type 0} (m : Meaning Value Op) (config : Config) (
   pub lines : outcomes ≡ own ++ answers_at m (lines_read m config x w own) i
   pub same : IsSame m config (step_ended m config i (lines_read m config x w (own ++ answers_at m (lines_read m config x w own) i))) run
 
-module _ {Value Op : Type 0} (m : Meaning Value Op) (kind_of : Op → Kind) (lawful : Lawful m kind_of) (config : Config) (issued : Cid → Option (LabelledCall Op)) (w : Facts Op) (v : RunState Value Op) (i : ℕ) (here : i < config.replicas)
+module _ {Value Op : Type 0} (m : Meaning Value Op) {e : Encoding Value} (kind_of : Op → Kind) (lawful : Lawful m e kind_of) (config : Config) (issued : Cid → Option (LabelledCall Op)) (w : Facts Op) (v : RunState Value Op) (i : ℕ) (here : i < config.replicas)
     (replica : ReplicaState Value Op) (there : slice_get v.replicas i ≡ Some replica) (setting : replica.config ≡ config) (number : replica.me ≡ i)
     (x : Handling Op) (own : List Outcome) (end : Ending Value Op) (part : IsOwnPart m config issued w v i x own end) where
   abbrev w1 : Facts Op

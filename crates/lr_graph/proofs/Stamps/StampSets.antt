@@ -164,7 +164,7 @@ module _ {Value Op : Type 0} (m : Meaning Value Op) (config : Config) (w : Facts
       }
 
   carries : (x : Carried Op) (p : Message Op) → SameCarried m config w.accepted w.received same.issued (calls_in w) x p → CarriesStamp config w v x p
-  carries x p (same_update c d t time call times by update plain) = stands d.prev c.label call.names call.set
+  carries x p (same_update c d t time call times by update) = stands d.prev c.label call.names call.set
   carries x p (same_query c d call by) = stands d.prev c.label call.names call.set
   carries x p (same_done cid other names at stamp cids named set) = stands stamp names named set
   carries x p (same_answer cid other names text stamp cids named set) = stands stamp names named set
