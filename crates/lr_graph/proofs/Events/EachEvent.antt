@@ -190,13 +190,13 @@ module _ {Value Op : Type 0} (m : Meaning Value Op) {e : Encoding Value} (kind_o
 
     -- an event of a run is the same on both sides, where all updates that were sent have rules
     pub same-step : Holds (λ op. has_rules (m.kind op) ≡ true) w → (event : Event Op) → IsEventOf m config event → IsSameStep m config w event (stepped m v event)
-    same-step plain (CallEvent client replica reading op) fits = call-step client replica reading op fits.0 fits.1
+    same-step plain (CallEvent client replica reading op) fits = call-step client replica reading op fits.0.0 fits.0.1
     same-step plain (Deliver n) fits =
         let came = found-fine (λ op. has_rules (m.kind op) ≡ true) n w.messages plain.messages in
         let out = delivers w v same n (find (λ x. x.number == n) w.messages) (message_at v.posted n) came (same.shared.messages n) in
         record { lines = out.lines; same = out.same }
-    same-step plain (GossipEvent i to) fits = gossip-step i to fits.0 fits.1 fits.2
-    same-step plain (Show i) fits = show-step i fits
+    same-step plain (GossipEvent i to) fits = gossip-step i to fits.0.0 fits.0.1 fits.0.2
+    same-step plain (Show i) fits = show-step i fits.0
 
     -- after an event of a legal history some run has the facts
     pub legal-step : (event : Event Op) → is_event_in m config event ≡ true

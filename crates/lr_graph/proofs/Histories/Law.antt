@@ -152,16 +152,16 @@ module _ {Value Op : Type 0} (m : Meaning Value Op) {e : Encoding Value} (kind_o
   -- an event of a run is one of its histories
   event-in : (event : Event Op) → IsEventOf m config event → is_event_in m config event ≡ true
   event-in (Call client replica reading op) fits =
-      and-intro _ _ (lt-ltb client config.clients fits.0) (and-intro _ _ (lt-ltb replica config.replicas fits.1) fits.3)
+      and-intro _ _ (lt-ltb client config.clients fits.0.0) (and-intro _ _ (lt-ltb replica config.replicas fits.0.1) fits.1)
   event-in (Deliver message) fits = refl
   event-in (GossipEvent from to) fits =
-      and-intro _ _ (lt-ltb from config.replicas fits.0) (and-intro _ _ (lt-ltb to config.replicas fits.1)
-      (ap not (never (from == to) (λ e. fits.2 (eqb-true from to e)))))
-  event-in (Show replica) fits = lt-ltb replica config.replicas fits
+      and-intro _ _ (lt-ltb from config.replicas fits.0.0) (and-intro _ _ (lt-ltb to config.replicas fits.0.1)
+      (ap not (never (from == to) (λ e. fits.0.2 (eqb-true from to e)))))
+  event-in (Show replica) fits = lt-ltb replica config.replicas fits.0
 
   -- an event of a run calls what has rules
   calls-rules : (event : Event Op) → IsEventOf m config event → CallsFine m HasRules event
-  calls-rules (Call client replica reading op) fits = λ update. fits.2
+  calls-rules (Call client replica reading op) fits = λ update. fits.0.2
   calls-rules (Deliver message) fits = tt
   calls-rules (GossipEvent from to) fits = tt
   calls-rules (Show replica) fits = tt
