@@ -3,7 +3,7 @@ use Rattle.std.proofs.Common.{◌≡◌, ◌==◌, ℕ, suc, ◌+◌, ◌<◌, �
 use Rattle.std.specs.List.{slice_get}
 use Rattle.std.specs.Option.{option_map}
 use Rattle.lr_base.specs.Fronts.{FrontState, called, clock_read, front_on_call, message_of, next_cid}
-use Rattle.lr_base.specs.Kinds.{has_rules, is_query}
+use Rattle.lr_base.specs.Kinds.{is_query}
 use Rattle.lr_base.specs.Meaning.{Meaning}
 use Rattle.lr_base.specs.Rules.{same_cid}
 use Rattle.lr_base.specs.declared.acts.Act.TheVariants.{Send}

@@ -1,5 +1,5 @@
 -- Each event is the same in the graph and by the rules.
-use Rattle.std.proofs.Common.{◌≡◌, ◌==◌, ◌≢◌, ℕ, ◌<◌, ◌^◌, false, find, List, [], ◌∷◌, Option, Some, None, refl, sym, ap, ◌∙◌, subst, subst₂, arith, eqb-true, suc, true, true≢false, leb-true, eq-eqb, nat_lt, Bool, ◌++◌, ltb-true}
+use Rattle.std.proofs.Common.{◌≡◌, ◌==◌, ◌≢◌, ℕ, ◌<◌, ◌^◌, false, find, List, [], ◌∷◌, Option, Some, None, refl, sym, ap, ◌∙◌, subst, subst₂, arith, eqb-true, true, true≢false, eq-eqb, nat_lt, Bool, ◌++◌, ltb-true}
 use Rattle.std.proofs.lemmas.List.{append-nil}
 use Rattle.std.specs.List.{slice_get}
 use Rattle.lr_base.specs.Events.{IsEventOf}
@@ -202,14 +202,18 @@ module _ {Value Op : Type 0} (m : Meaning Value Op) {e : Encoding Value} (kind_o
     pub legal-step : (event : Event Op) → is_event_in m config event ≡ true
         → (u : RunState Value Op) × IsSame m config (after m config w (record { event = event; outcomes = outcomes_of m config w event })) u
     legal-step (CallEvent client replica reading op) own =
-        let others = and-right (nat_lt client config.clients) _ own in
-        (_, (call-step client replica reading op (ltb-true client config.clients (and-left (nat_lt client config.clients) _ own))
-        (ltb-true replica config.replicas (and-left (nat_lt replica config.replicas) _ others))).same)
+        let others = and-right (nat_lt client config.clients) _ own in (
+          _,
+          (call-step client replica reading op (ltb-true client config.clients (and-left (nat_lt client config.clients) _ own))
+              (ltb-true replica config.replicas (and-left (nat_lt replica config.replicas) _ others))).same,
+        )
     legal-step (Deliver n) own = follows w v same n (find (λ x. x.number == n) w.messages) (message_at v.posted n) (same.shared.messages n)
     legal-step (GossipEvent i to) own =
         let others = and-right (nat_lt i config.replicas) _ own in
-        let apart = not-false (i == to) (and-right (nat_lt to config.replicas) _ others) in
-        (_, (gossip-step i to (ltb-true i config.replicas (and-left (nat_lt i config.replicas) _ own))
-        (ltb-true to config.replicas (and-left (nat_lt to config.replicas) _ others))
-        (λ e. true≢false (sym (eq-eqb i to e) ∙ apart))).same)
+        let apart = not-false (i == to) (and-right (nat_lt to config.replicas) _ others) in (
+          _,
+          (gossip-step i to (ltb-true i config.replicas (and-left (nat_lt i config.replicas) _ own))
+              (ltb-true to config.replicas (and-left (nat_lt to config.replicas) _ others))
+              (λ e. true≢false (sym (eq-eqb i to e) ∙ apart))).same,
+        )
     legal-step (Show i) own = (_, (show-step i (ltb-true i config.replicas own)).same)

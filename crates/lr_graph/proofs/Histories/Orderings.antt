@@ -1,5 +1,5 @@
 -- Every order of a set's acceptances that agrees where kinds need one order gives the set's value, and the order of making is one.
-use Rattle.std.proofs.Common.{◌≡◌, ◌≢◌, ℕ, Bool, true, false, cond, not, ◌&&◌, ◌||◌, if◌then◌else◌, ◌⊎◌, inl, inr, List, [], ◌∷◌, ◌++◌, filter, map, refl, sym, ap, ◌∙◌, subst, true≢false}
+use Rattle.std.proofs.Common.{◌≡◌, ◌≢◌, ℕ, Bool, true, false, cond, not, ◌&&◌, ◌||◌, if◌then◌else◌, ◌⊎◌, inl, inr, List, [], ◌∷◌, ◌++◌, filter, refl, sym, ap, ◌∙◌, subst, true≢false}
 use Rattle.lr_base.specs.Kinds.{IsUpdate, are_ordered, is_query}
 use Rattle.lr_base.specs.Meaning.{Encoding, Lawful, Meaning}
 use Rattle.lr_base.specs.OrderLaws.{apply_all-behind, before-first, before-second, one-value, ordered-opposites}
@@ -14,12 +14,11 @@ use Rattle.lr_graph.specs.Closed.{Each, HasApartSpots, HasOlderCauses, IsSound, 
 use Rattle.lr_graph.specs.Graph.{Acceptance, first_facts, has_call, ready, value}
 use Rattle.lr_graph.specs.Legal.{IsLegal}
 use Rattle.lr_graph.specs.Orderings.{FollowsCauses, IsOrderOf, everything}
-use Rattle.lr_graph.specs.Runs.{first_run, history_of, run_after}
 use Rattle.lr_graph.specs.Sets.{SpotSet, same_spot}
 use Rattle.lr_graph.proofs.Histories.Law.{legal-same}
 use Rattle.lr_graph.proofs.Lists.Members.{among-filter, among-left, among-right, each-at, each-from, each-map, filter-each}
 use Rattle.lr_graph.proofs.Sets.ReadySets.{below-parts, causes-accepted, self-below}
-use Rattle.lr_graph.proofs.Related.Relation.{IsSame, calls_in}
+use Rattle.lr_graph.proofs.Related.Relation.{calls_in}
 use Rattle.lr_graph.proofs.Replicas.Stepping.{all-free, one-call}
 use Rattle.lr_graph.proofs.Lists.Tests.{and-intro, and-left, and-right, never, not-false, or-cases, or-false, same_cid-is, same_spot-is, same_spot-self}
 use Rattle.lr_graph.proofs.Related.Ties.{HasOneCall, IsFree}

@@ -1,17 +1,16 @@
 -- Points of legal histories, and what holds between an earlier and a later one.
-use Rattle.std.proofs.Common.{◌≡◌, ◌≤◌, List, [], ◌∷◌, ◌++◌, refl, sym, ap, ◌∙◌, subst, true≢false, arith}
+use Rattle.std.proofs.Common.{◌≡◌, ◌≤◌, List, [], ◌∷◌, ◌++◌, refl, sym, ap, ◌∙◌, true≢false, arith}
 use Rattle.lr_base.specs.Meaning.{Encoding, Lawful, Meaning}
-use Rattle.lr_base.specs.declared.events.Outcome.{Outcome}
 use Rattle.lr_base.specs.declared.events.Step.{Step}
 use Rattle.lr_base.specs.declared.lr_service.Kind.{Kind}
 use Rattle.lr_base.specs.declared.names.Config.{Config}
 use Rattle.lr_graph.specs.After.{after, stepping}
 use Rattle.lr_graph.specs.Central.{facts_after}
-use Rattle.lr_graph.specs.Closed.{Each, IsAccepted, IsSetOf, IsSound}
+use Rattle.lr_graph.specs.Closed.{IsAccepted, IsSetOf, IsSound}
 use Rattle.lr_graph.specs.Graph.{Acceptance, Facts, first_facts}
-use Rattle.lr_graph.specs.Legal.{IsLegal, LegalFrom, outcomes_of, IsLegalStep}
+use Rattle.lr_graph.specs.Legal.{IsLegal, LegalFrom, IsLegalStep}
 use Rattle.lr_graph.specs.Promises.{facts_of}
-use Rattle.lr_graph.specs.Runs.{RunState, first_run, stepped}
+use Rattle.lr_graph.specs.Runs.{RunState, first_run}
 use Rattle.lr_graph.specs.Sets.{SpotSet, same_spot}
 use Rattle.lr_graph.proofs.Histories.Law.{first-same, step-same}
 use Rattle.lr_graph.proofs.Lists.Members.{each-at, each-map}

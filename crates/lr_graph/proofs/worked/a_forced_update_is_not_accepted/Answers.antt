@@ -1,4 +1,4 @@
-use Rattle.std.proofs.Common.{◌≡◌, Bool, true, false, List, [], ◌∷◌, refl, ap, true≢false}
+use Rattle.std.proofs.Common.{Bool, true, false, List, [], ◌∷◌, refl, ap, true≢false}
 use Rattle.lr_base.specs.declared.events.Outcome.{Outcome}
 use Rattle.lr_graph.proofs.worked.a_forced_update_is_not_accepted.Goals as goal
 

@@ -7,11 +7,22 @@ use Rattle.lr_graph.specs.Worked.{second_call}
 use Rattle.lr_graph.proofs.worked.an_addition_is_read.Goals as goal
 
 pub returns : goal.returns
-returns c =
+returns c = (
+  record { event = refl; outcomes = refl },
+  (
+    record { event = refl; outcomes = refl },
     (
       record { event = refl; outcomes = refl },
-      (record { event = refl; outcomes = refl }, (record { event = refl; outcomes = refl }, (record { event = refl; outcomes = refl }, (record {
-        event = refl;
-        outcomes = λ k. Send 4 (Replica 0) (Client 0) (Answer second_call (sym three-read k)) ∷ [];
-      }, (record { event = refl; outcomes = refl }, (record { event = refl; outcomes = refl }, tt)))))),
-    )
+      (
+        record { event = refl; outcomes = refl },
+        (
+          record {
+            event = refl;
+            outcomes = λ k. Send 4 (Replica 0) (Client 0) (Answer second_call (sym three-read k)) ∷ [];
+          },
+          (record { event = refl; outcomes = refl }, (record { event = refl; outcomes = refl }, tt)),
+        ),
+      ),
+    ),
+  ),
+)
