@@ -89,8 +89,7 @@ pub trait Service: Sized + Drop {
 
     /// Adds the operation's one text behind `out`.
     fn print_op(op: &Self::Op, out: &mut Text) -> Result<(), NoMemory>
-        ensures ok { OnOk result (out.new ≡ out.old ++ meaning.text op.now) }
-        ensures real { OnOk result (meaning.is_op op.now ≡ true) };
+        ensures { OnOk result (out.new ≡ out.old ++ meaning.text op.now) };
 
     /// A value equal to this one.
     fn copy(&self) -> Result<Self, NoMemory>

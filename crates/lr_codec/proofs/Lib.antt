@@ -1,4 +1,4 @@
-pub mod Texts
+pub mod Acks
 pub mod Stamps
 pub mod Split
 pub mod Puts

@@ -6,14 +6,14 @@ use mathlib.Core.Logic.{inl, inr}
 use Rattle.std.proofs.Common.{arith}
 use Rattle.std.proofs.lemmas.Bool.{and_parts, and_from, eqb-true}
 use Rattle.std.proofs.lemmas.Bool.Decides.{nat_tests}
-use Rattle.lr_base.specs.Bytes.{Bytes, each_may}
+use Rattle.lr_base.specs.Bytes.{each_may}
 use Rattle.lr_base.specs.FormatLaws.{both-exact, count_format-exact, either-exact, keyed-exact, known_test-exact}
 use Rattle.lr_base.specs.FormatLaws.{leading-exact, listed-exact, number_of-exact, number_format-exact}
 use Rattle.lr_base.specs.FormatLaws.{only_where-exact, renamed-exact}
 use Rattle.lr_base.specs.Formats.{Format, IsExactFormat, number_of, number_format, count_format, leading, both}
 use Rattle.lr_base.specs.Formats.{known_test, keyed, listed, repeated}
 use Rattle.lr_base.specs.Kinds.{is_immediate}
-use Rattle.lr_base.specs.Meaning.{Meaning, Lawful, IsLegible}
+use Rattle.lr_base.specs.Meaning.{Encoding, Meaning, Lawful}
 use Rattle.lr_base.specs.Stamps.{Stamp}
 use Rattle.lr_base.specs.declared.bytes.BadWhat.TheVariants.{Range}
 use Rattle.lr_base.specs.declared.lr_service.Kind.{Kind}
@@ -164,14 +164,14 @@ module _ {Op : Type 0} where
       merged-ack a (updates_of items) (acks_of items) (first-update (Ack a) items parts.1)
       ∙ ap (λ (l : List (Item Op)). Ack a ∷ l) (merged-split (Some (Ack a)) items parts.1)
 
-module _ {V Op : Type 0} (m : Meaning V Op) (op_of : Bytes → Option Op) (kind_of : Op → Kind)
-    (lawful : Lawful m kind_of) (legible : IsLegible m op_of) where
+module _ {V Op : Type 0} (m : Meaning V Op) {e : Encoding V} (kind_of : Op → Kind)
+    (lawful : Lawful m e kind_of) where
   -- what stands behind a spot is exact
-  rest-exact : (replicas tag : ℕ) → IsExactFormat (rest_format m op_of replicas tag)
+  rest-exact : (replicas tag : ℕ) → IsExactFormat (rest_format m replicas tag)
   rest-exact replicas tag = both-exact cid_format _ cid-exact (either-exact (tag == 1)
-      (both (stamp_format (replicas + 1)) (op_format m op_of is_update)) number_format
-      (both-exact (stamp_format (replicas + 1)) (op_format m op_of is_update) (stamp-exact (replicas + 1))
-      (op-exact m op_of kind_of is_update lawful legible)) number_format-exact)
+      (both (stamp_format (replicas + 1)) (op_format m is_update)) number_format
+      (both-exact (stamp_format (replicas + 1)) (op_format m is_update) (stamp-exact (replicas + 1))
+      (op-exact m kind_of is_update lawful)) number_format-exact)
 
   spot-exact : (replicas : ℕ) (rep_ts : Stamp) (tag : ℕ) → IsExactFormat (spot_format replicas rep_ts tag)
   spot-exact replicas rep_ts tag = renamed-exact (λ parts. record { place = parts.0; number = parts.1 })
@@ -193,7 +193,7 @@ module _ {V Op : Type 0} (m : Meaning V Op) (op_of : Bytes → Option Op) (kind_
 
   -- an item is exact
   pub item-exact : (replicas : ℕ) (rep_ts : Stamp) (last : Option (Item Op))
-      → IsExactFormat (item_format m op_of replicas rep_ts last)
+      → IsExactFormat (item_format m replicas rep_ts last)
   item-exact replicas rep_ts last = renamed-exact (λ parts. item_with parts.0.1 parts.1.0 parts.1.1) item_parts
       (keyed next key rest) there here (keyed-exact next key rest
       (leading-exact tag_format (spot_format replicas rep_ts) (byte-exact _) (spot-exact replicas rep_ts))
@@ -206,7 +206,7 @@ module _ {V Op : Type 0} (m : Meaning V Op) (op_of : Bytes → Option Op) (kind_
       key = leading tag_format (spot_format replicas rep_ts)
 
       rest : ℕ × Spot → Format (Cid × ((Stamp × Op) ⊎ ℕ))
-      rest k = rest_format m op_of replicas k.0
+      rest k = rest_format m replicas k.0
 
       there : (item : Item Op) → (keyed next key rest).is_value (item_parts item) ≡ true
           → item_with (item_parts item).0.1 (item_parts item).1.0 (item_parts item).1.1 ≡ item
@@ -226,7 +226,7 @@ module _ {V Op : Type 0} (m : Meaning V Op) (op_of : Bytes → Option Op) (kind_
 
   -- items that may follow one another are in strict order of their spots
   order-of : (replicas : ℕ) (rep_ts : Stamp) (last : Option (Item Op)) (items : List (Item Op))
-      → each_may (λ last. (item_format m op_of replicas rep_ts last).is_value) last items ≡ true
+      → each_may (λ last. (item_format m replicas rep_ts last).is_value) last items ≡ true
       → are_behind last items ≡ true
   order-of replicas rep_ts last [] may = refl
   order-of replicas rep_ts last (Update u ∷ items) may =
@@ -239,28 +239,28 @@ module _ {V Op : Type 0} (m : Meaning V Op) (op_of : Bytes → Option Op) (kind_
       and_from _ _ keys.1 (order-of replicas rep_ts (Some (Ack a)) items parts.1)
 
   -- the log is exact
-  pub log-exact : (replicas : ℕ) (rep_ts : Stamp) → IsExactFormat (log_format m op_of replicas rep_ts)
+  pub log-exact : (replicas : ℕ) (rep_ts : Stamp) → IsExactFormat (log_format m replicas rep_ts)
   log-exact replicas rep_ts = renamed-exact (λ items. (updates_of items, acks_of items)) (λ log. merged log.0 log.1)
-      (listed count_format (item_format m op_of replicas rep_ts)) there here
-      (listed-exact count_format (item_format m op_of replicas rep_ts) count_format-exact (item-exact replicas rep_ts))
+      (listed count_format (item_format m replicas rep_ts)) there here
+      (listed-exact count_format (item_format m replicas rep_ts) count_format-exact (item-exact replicas rep_ts))
     where
       there : (log : List (LogUpdate Op) × List LogAck)
-          → (listed count_format (item_format m op_of replicas rep_ts)).is_value (merged log.0 log.1) ≡ true
+          → (listed count_format (item_format m replicas rep_ts)).is_value (merged log.0 log.1) ≡ true
           → (updates_of (merged log.0 log.1), acks_of (merged log.0 log.1)) ≡ log
       there (updates, acks) is = rw (updates-merged Op updates acks, acks-merged Op updates acks) refl
 
       here : (items : List (Item Op))
-          → (listed count_format (item_format m op_of replicas rep_ts)).is_value items ≡ true
+          → (listed count_format (item_format m replicas rep_ts)).is_value items ≡ true
           → merged (updates_of items) (acks_of items) ≡ items
       here items is =
-          let one = item_format m op_of replicas rep_ts in
+          let one = item_format m replicas rep_ts in
           let all = (and_parts (count_format.is_value (length items))
           ((repeated one (length items)).is_value items) is).1 in
           let each = and_parts (length items == length items) (each_may (λ last. (one last).is_value) None items) all in
           merged-split None items (order-of replicas rep_ts None items each.1)
 
   -- an entry is exact
-  pub entry-exact : (parts : ℕ) → IsExactFormat (entry_format m op_of parts)
+  pub entry-exact : (parts : ℕ) → IsExactFormat (entry_format m parts)
   entry-exact parts = renamed-exact
       (λ it. record {
         birth = it.0;
@@ -272,14 +272,14 @@ module _ {V Op : Type 0} (m : Meaning V Op) (op_of : Bytes → Option Op) (kind_
       _ (λ entry is. refl) (λ it is. refl)
       (both-exact part_format _ part-exact (both-exact cid_format _ cid-exact
       (both-exact (stamp_format parts) _ (stamp-exact parts) (both-exact (stamp_format parts) _ (stamp-exact parts)
-      (leading-exact (op_format m op_of is_update) (λ op. known_test (is_immediate (m.kind op)))
-      (op-exact m op_of kind_of is_update lawful legible) (λ op. known_test-exact _))))))
+      (leading-exact (op_format m is_update) (λ op. known_test (is_immediate (m.kind op)))
+      (op-exact m kind_of is_update lawful) (λ op. known_test-exact _))))))
 
   -- the order log is exact
-  pub order-exact : (parts : ℕ) → IsExactFormat (order_format m op_of parts)
+  pub order-exact : (parts : ℕ) → IsExactFormat (order_format m parts)
   order-exact parts = leading-exact number_format (λ base. listed (entry_count_format base)
-      (λ last. entry_format m op_of parts)) number_format-exact
-      (λ base. listed-exact (entry_count_format base) (λ last. entry_format m op_of parts)
+      (λ last. entry_format m parts)) number_format-exact
+      (λ base. listed-exact (entry_count_format base) (λ last. entry_format m parts)
       (only_where-exact _ Range (number_of 4) (number_of-exact 4)) (λ last. entry-exact parts))
 
 -- what is known of a call is exact

@@ -55,10 +55,10 @@ spot_format replicas rep_ts tag = renamed (λ parts. record { place = parts.0; n
 
 -- what an item with this tag has behind its spot: its call, and then the label and the operation of an update, or the
 -- time of an acknowledgement
-abbrev pub rest_format : {Value Op : Type 0} → Meaning Value Op → (Bytes → Option Op) → ℕ → ℕ
+abbrev pub rest_format : {Value Op : Type 0} → Meaning Value Op → ℕ → ℕ
     → Format (Cid × ((Stamp × Op) ⊎ ℕ))
-rest_format m op_of replicas tag = both cid_format
-    (either (tag == 1) (both (stamp_format (replicas + 1)) (op_format m op_of is_update)) number_format)
+rest_format m replicas tag = both cid_format
+    (either (tag == 1) (both (stamp_format (replicas + 1)) (op_format m is_update)) number_format)
 
 -- the parts of an item, in the order of its bytes
 abbrev pub item_parts : {Op : Type 0} → Item Op → (ℕ × Spot) × (Cid × ((Stamp × Op) ⊎ ℕ))
@@ -71,15 +71,15 @@ item_with spot cid (inl update) = Update (record { spot = spot; cid = cid; prev 
 item_with spot cid (inr time) = Ack (record { spot = spot; cid = cid; time = time })
 
 -- an item of the log, behind the one before it
-abbrev pub item_format : {Value Op : Type 0} → Meaning Value Op → (Bytes → Option Op) → ℕ → Stamp
+abbrev pub item_format : {Value Op : Type 0} → Meaning Value Op → ℕ → Stamp
     → Option (Item Op) → Format (Item Op)
-item_format m op_of replicas rep_ts last = renamed (λ parts. item_with parts.0.1 parts.1.0 parts.1.1) item_parts
+item_format m replicas rep_ts last = renamed (λ parts. item_with parts.0.1 parts.1.0 parts.1.1) item_parts
     (keyed (λ key. is_next_spot last key.1) (leading tag_format (spot_format replicas rep_ts))
-    (λ key. rest_format m op_of replicas key.0))
+    (λ key. rest_format m replicas key.0))
 
 -- the bytes of an item, which nothing before it changes
-abbrev pub item_bytes : {Value Op : Type 0} → Meaning Value Op → (Bytes → Option Op) → Item Op → Bytes
-item_bytes m op_of = (item_format m op_of 0 [] None).written
+abbrev pub item_bytes : {Value Op : Type 0} → Meaning Value Op → Item Op → Bytes
+item_bytes m = (item_format m 0 [] None).written
 
 -- the updates of a log's items
 abbrev pub updates_of : {Op : Type 0} → List (Item Op) → List (LogUpdate Op)
@@ -110,10 +110,10 @@ merged [] acks = only_acks acks
 merged (u ∷ updates) acks = placed u acks (merged updates)
 
 -- the log: the count of its items, and these in strict order of their spots
-abbrev pub log_format : {Value Op : Type 0} → Meaning Value Op → (Bytes → Option Op) → ℕ → Stamp
+abbrev pub log_format : {Value Op : Type 0} → Meaning Value Op → ℕ → Stamp
     → Format (List (LogUpdate Op) × List LogAck)
-log_format m op_of replicas rep_ts = renamed (λ items. (updates_of items, acks_of items))
-    (λ log. merged log.0 log.1) (listed count_format (item_format m op_of replicas rep_ts))
+log_format m replicas rep_ts = renamed (λ items. (updates_of items, acks_of items))
+    (λ log. merged log.0 log.1) (listed count_format (item_format m replicas rep_ts))
 
 -- a call may come next: it stands behind the one before it, if there is one
 abbrev pub is_next_cid : Option (Cid × Known) → Cid → Bool
@@ -134,8 +134,8 @@ calls_format replicas = listed count_format
 
 -- an entry of the order log, in the order of its bytes: birth, call, label, extra stamp, operation. It is immediate
 -- where its operation is
-abbrev pub entry_format : {Value Op : Type 0} → Meaning Value Op → (Bytes → Option Op) → ℕ → Format (Entry Op)
-entry_format m op_of parts = renamed
+abbrev pub entry_format : {Value Op : Type 0} → Meaning Value Op → ℕ → Format (Entry Op)
+entry_format m parts = renamed
     (λ it. record {
       birth = it.0;
       call = record { cid = it.1.0; prev = it.1.1.0; op = it.1.1.1.1.0 };
@@ -144,7 +144,7 @@ entry_format m op_of parts = renamed
     })
     (λ entry. (entry.birth, (entry.call.cid, (entry.call.prev, (entry.extra, (entry.call.op, entry.immediate))))))
     (both part_format (both cid_format (both (stamp_format parts) (both (stamp_format parts)
-    (leading (op_format m op_of is_update) (λ op. known_test (is_immediate (m.kind op))))))))
+    (leading (op_format m is_update) (λ op. known_test (is_immediate (m.kind op))))))))
 
 -- how many entries an order log may have at once
 abbrev pub most_entries : ℕ
@@ -156,10 +156,10 @@ entry_count_format base = only_where (λ count. nat_le count most_entries && nat
     (number_of 4)
 
 -- the order log: its base, and the entries behind it
-abbrev pub order_format : {Value Op : Type 0} → Meaning Value Op → (Bytes → Option Op) → ℕ
+abbrev pub order_format : {Value Op : Type 0} → Meaning Value Op → ℕ
     → Format (ℕ × List (Entry Op))
-order_format m op_of parts = leading number_format
-    (λ base. listed (entry_count_format base) (λ last. entry_format m op_of parts))
+order_format m parts = leading number_format
+    (λ base. listed (entry_count_format base) (λ last. entry_format m parts))
 
 -- freeze marks, each a view and a number
 abbrev pub marks_format : Format (List (ℕ × ℕ))

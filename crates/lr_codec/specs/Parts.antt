@@ -7,7 +7,7 @@ use Rattle.lr_base.specs.Formats.{Format, number_of, number_format, both, rename
 use Rattle.lr_base.specs.Formats.{repeated}
 use Rattle.lr_base.specs.Kinds.{is_query}
 use Rattle.lr_base.specs.Limits.{last_number}
-use Rattle.lr_base.specs.Meaning.{Meaning}
+use Rattle.lr_base.specs.Meaning.{Encoding, Meaning}
 use Rattle.lr_base.specs.Stamps.{Stamp}
 use Rattle.lr_base.specs.declared.bytes.BadWhat.TheVariants.{Short, Range, Value}
 use Rattle.lr_base.specs.declared.lr_service.Kind.{Kind}
@@ -53,12 +53,12 @@ op_found m may bytes rest None = Wrong (length bytes) Value
 op_found m may bytes rest (Some op) = if may (m.kind op) then Found op rest else Wrong (length bytes) Value
 
 -- an operation of a kind that passes: 2 bytes of length, and its text
-abbrev pub op_format : {Value Op : Type 0} → Meaning Value Op → (Bytes → Option Op) → (Kind → Bool) → Format Op
-op_format m op_of may = record {
+abbrev pub op_format : {Value Op : Type 0} → Meaning Value Op → (Kind → Bool) → Format Op
+op_format m may = record {
   is_value = λ op. m.is_op op && may (m.kind op);
   written = λ op. big_bytes 2 (length (m.text op)) ++ m.text op;
   field = λ bytes. and_then ((number_of 2).field bytes)
-      (sized (λ bytes text rest. op_found m may bytes rest (op_of text)));
+      (sized (λ bytes text rest. op_found m may bytes rest (m.op_of text)));
 }
 
 -- what a value's own bytes are; what is wrong in them is wrong where it stands in the whole
@@ -67,9 +67,9 @@ value_found bytes rest (Good value) = Found value rest
 value_found bytes rest (Bad at what) = Wrong (length bytes - at) what
 
 -- the service's value: the length of its bytes, and then these
-abbrev pub value_format : {Value Op : Type 0} → Meaning Value Op → Format Value
-value_format m = record {
-  is_value = m.is_value;
-  written = λ value. count_bytes (length (m.spelling value)) ++ m.spelling value;
-  field = λ bytes. and_then (count_field bytes) (sized (λ bytes text rest. value_found bytes rest (m.decoded text)));
+abbrev pub value_format : {Value : Type 0} → Encoding Value → Format Value
+value_format e = record {
+  is_value = e.is_value;
+  written = λ value. count_bytes (length (e.spelling value)) ++ e.spelling value;
+  field = λ bytes. and_then (count_field bytes) (sized (λ bytes text rest. value_found bytes rest (e.decoded text)));
 }

@@ -1,14 +1,13 @@
 -- Stable bytes are exact.
 use Rattle.std.proofs.Common.{◌≡◌, ◌+◌, ◌-◌, ◌^◌, ◌==◌, ◌&&◌, ◌||◌, cond, ℕ, Bool, true, false, List}
 use Rattle.std.proofs.Common.{refl, sym, ◌∙◌, ap}
-use Rattle.std.specs.Prelude.{nat_lt, Option}
+use Rattle.std.specs.Prelude.{nat_lt}
 use Rattle.std.proofs.lemmas.Bool.{and_parts, eqb-true}
-use Rattle.lr_base.specs.Bytes.{Bytes}
 use Rattle.lr_base.specs.FormatLaws.{both-exact, leading-exact, number_of-exact, number_format-exact, only_where-exact}
 use Rattle.lr_base.specs.FormatLaws.{optional-exact, renamed-exact, repeated-exact}
 use Rattle.lr_base.specs.Formats.{IsExactFormat, number_of, number_format, both, only_where}
 use Rattle.lr_base.specs.Kinds.{is_immediate}
-use Rattle.lr_base.specs.Meaning.{Meaning, Lawful, IsLegible}
+use Rattle.lr_base.specs.Meaning.{Encoding, Meaning, Lawful}
 use Rattle.lr_base.specs.Stamps.{Stamp, part}
 use Rattle.lr_base.specs.declared.bytes.BadWhat.TheVariants.{Magic}
 use Rattle.lr_base.specs.declared.lr_service.Kind.{Kind}
@@ -97,28 +96,28 @@ front-exact service whose = renamed-exact
     (table_format head.replicas) (stamps-exact (head.replicas + 1)) (repeated-exact
     (λ last. stamp_format (head.replicas + 1)) (λ last. stamp-exact (head.replicas + 1)) (head.replicas - 1)))))
 
-module _ {V Op : Type 0} (m : Meaning V Op) (op_of : Bytes → Option Op) (kind_of : Op → Kind)
-    (lawful : Lawful m kind_of) (legible : IsLegible m op_of) where
+module _ {V Op : Type 0} (m : Meaning V Op) {e : Encoding V} (kind_of : Op → Kind)
+    (lawful : Lawful m e kind_of) where
   free_cid-exact : (entries : List (Entry Op)) → IsExactFormat (free_cid_format entries)
   free_cid-exact entries = renamed-exact (λ parts. record { client = parts.0; seq = parts.1 })
       (λ cid. (cid.client, cid.seq)) _ (λ cid is. refl) (λ parts is. refl)
       (leading-exact (number_of 4) _ (number_of-exact 4) (λ client. number_where-exact _))
 
   frozen_call-exact : (parts : ℕ) (entries : List (Entry Op))
-      → IsExactFormat (frozen_call_format m op_of parts entries)
+      → IsExactFormat (frozen_call_format m parts entries)
   frozen_call-exact parts entries = renamed-exact
       (λ it. record { cid = it.0; prev = it.1.0; op = it.1.1 }) (λ call. (call.cid, (call.prev, call.op))) _
       (λ call is. refl) (λ it is. refl) (both-exact (free_cid_format entries) _ (free_cid-exact entries)
-      (both-exact (stamp_format parts) (op_format m op_of is_immediate) (stamp-exact parts)
-      (op-exact m op_of kind_of is_immediate lawful legible)))
+      (both-exact (stamp_format parts) (op_format m is_immediate) (stamp-exact parts)
+      (op-exact m kind_of is_immediate lawful)))
 
   frozen-exact : (parts : ℕ) (opened : Bool) (received : ℕ) (order : ℕ × List (Entry Op))
-      → IsExactFormat (frozen_format m op_of parts opened received order)
+      → IsExactFormat (frozen_format m parts opened received order)
   frozen-exact parts opened received order = optional-exact (may_freeze opened received order) _
       (both-exact (frozen_number_format order) _ (number_where-exact _) (frozen_call-exact parts order.1))
 
   lists-exact : (replicas : ℕ) (rep_ts : Stamp) (opened : Bool)
-      → IsExactFormat (lists_format m op_of replicas rep_ts opened)
+      → IsExactFormat (lists_format m replicas rep_ts opened)
   lists-exact replicas rep_ts opened = renamed-exact
       (λ it. record {
         updates = it.0.0;
@@ -129,19 +128,19 @@ module _ {V Op : Type 0} (m : Meaning V Op) (op_of : Bytes → Option Op) (kind_
         frozen = it.1.1.1.0;
         marks = it.1.1.1.1;
       })
-      list_parts _ (λ lists is. refl) (λ it is. refl) (both-exact (log_format m op_of replicas rep_ts) _
-      (log-exact m op_of kind_of lawful legible replicas rep_ts)
+      list_parts _ (λ lists is. refl) (λ it is. refl) (both-exact (log_format m replicas rep_ts) _
+      (log-exact m kind_of lawful replicas rep_ts)
       (both-exact (calls_format replicas) _ (calls-exact replicas)
-      (leading-exact (order_format m op_of (replicas + 1)) _
-      (order-exact m op_of kind_of lawful legible (replicas + 1)) (λ order.
-      both-exact (frozen_format m op_of (replicas + 1) opened (part rep_ts replicas) order) marks_format
+      (leading-exact (order_format m (replicas + 1)) _
+      (order-exact m kind_of lawful (replicas + 1)) (λ order.
+      both-exact (frozen_format m (replicas + 1) opened (part rep_ts replicas) order) marks_format
       (frozen-exact (replicas + 1) opened (part rep_ts replicas) order) marks-exact))))
 
   -- stable bytes are exact
-  pub state-exact : (service : ℕ) (whose : Whose) → IsExactFormat (state_format m op_of service whose)
+  pub state-exact : (service : ℕ) (whose : Whose) → IsExactFormat (state_format m e service whose)
   state-exact service whose = renamed-exact
       (λ it. state_with it.0 it.1.0 it.1.1) (λ s. (front_of s, (lists_of s, s.value)))
       _ (λ s is. refl) (λ it is. refl) (leading-exact (front_format service whose) _ (front-exact service whose)
-      (λ front. both-exact (lists_format m op_of front.head.replicas front.stamps.rep_ts front.views.opened)
-      (value_format m) (lists-exact front.head.replicas front.stamps.rep_ts front.views.opened)
+      (λ front. both-exact (lists_format m front.head.replicas front.stamps.rep_ts front.views.opened)
+      (value_format e) (lists-exact front.head.replicas front.stamps.rep_ts front.views.opened)
       (value-exact m kind_of lawful)))

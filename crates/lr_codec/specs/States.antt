@@ -3,12 +3,11 @@ use Rattle.std.specs.Prelude.{ℕ, ◌+◌, ◌-◌, ◌%◌, ◌==◌, ◌&&◌
 use Rattle.std.specs.Prelude.{length, Option, Some, None, codes}
 use Rattle.std.specs.List.{list_all}
 use Rattle.byteorder.specs.Endian.{big_number}
-use Rattle.lr_base.specs.Bytes.{Bytes}
 use Rattle.lr_base.specs.Formats.{Format, number_of, number_format, leading, both, renamed, only_where, optional}
 use Rattle.lr_base.specs.Formats.{repeated}
 use Rattle.lr_base.specs.Kinds.{is_immediate}
 use Rattle.lr_base.specs.Limits.{last_number, most_replicas}
-use Rattle.lr_base.specs.Meaning.{Meaning}
+use Rattle.lr_base.specs.Meaning.{Encoding, Meaning}
 use Rattle.lr_base.specs.Stamps.{Stamp, part}
 use Rattle.lr_base.specs.declared.bytes.BadWhat.TheVariants.{Magic}
 use Rattle.lr_base.specs.declared.messages.Call.{Call}
@@ -109,22 +108,22 @@ frozen_number_format order = number_where (λ number. nat_le number last_number
     && ((number == order.0 + length order.1 + 1) || (nat_le 1 number && nat_le number order.0)))
 
 -- a call that is frozen: its name, its label and its operation, an immediate one
-abbrev pub frozen_call_format : {Value Op : Type 0} → Meaning Value Op → (Bytes → Option Op) → ℕ
+abbrev pub frozen_call_format : {Value Op : Type 0} → Meaning Value Op → ℕ
     → List (Entry Op) → Format (Call Op)
-frozen_call_format m op_of parts entries = renamed
+frozen_call_format m parts entries = renamed
     (λ it. record { cid = it.0; prev = it.1.0; op = it.1.1 }) (λ call. (call.cid, (call.prev, call.op)))
-    (both (free_cid_format entries) (both (stamp_format parts) (op_format m op_of is_immediate)))
+    (both (free_cid_format entries) (both (stamp_format parts) (op_format m is_immediate)))
 
 -- the number under which a call is frozen, and the call
-abbrev pub numbered_format : {Value Op : Type 0} → Meaning Value Op → (Bytes → Option Op) → ℕ
+abbrev pub numbered_format : {Value Op : Type 0} → Meaning Value Op → ℕ
     → ℕ × List (Entry Op) → Format (ℕ × Call Op)
-numbered_format m op_of parts order = both (frozen_number_format order) (frozen_call_format m op_of parts order.1)
+numbered_format m parts order = both (frozen_number_format order) (frozen_call_format m parts order.1)
 
 -- the call being frozen, if there is one
-abbrev pub frozen_format : {Value Op : Type 0} → Meaning Value Op → (Bytes → Option Op) → ℕ → Bool → ℕ
+abbrev pub frozen_format : {Value Op : Type 0} → Meaning Value Op → ℕ → Bool → ℕ
     → ℕ × List (Entry Op) → Format (Option (ℕ × Call Op))
-frozen_format m op_of parts opened received order =
-    optional (may_freeze opened received order) (numbered_format m op_of parts order)
+frozen_format m parts opened received order =
+    optional (may_freeze opened received order) (numbered_format m parts order)
 
 -- the lists between the table and the value, in the order of their bytes: the log, the executed calls, the order log,
 -- the call being frozen and the marks
@@ -133,9 +132,9 @@ abbrev pub list_parts : {Op : Type 0} → Lists Op → (List (LogUpdate Op) × L
 list_parts it = ((it.updates, it.acks), (it.calls, ((it.base, it.entries), (it.frozen, it.marks))))
 
 -- these lists of a replica that received so much, where its view is open or not
-abbrev pub lists_format : {Value Op : Type 0} → Meaning Value Op → (Bytes → Option Op) → ℕ → Stamp → Bool
+abbrev pub lists_format : {Value Op : Type 0} → Meaning Value Op → ℕ → Stamp → Bool
     → Format (Lists Op)
-lists_format m op_of replicas rep_ts opened = renamed
+lists_format m replicas rep_ts opened = renamed
     (λ it. record {
       updates = it.0.0;
       acks = it.0.1;
@@ -145,9 +144,9 @@ lists_format m op_of replicas rep_ts opened = renamed
       frozen = it.1.1.1.0;
       marks = it.1.1.1.1;
     })
-    list_parts (both (log_format m op_of replicas rep_ts)
-    (both (calls_format replicas) (leading (order_format m op_of (replicas + 1)) (λ order.
-    both (frozen_format m op_of (replicas + 1) opened (part rep_ts replicas) order) marks_format))))
+    list_parts (both (log_format m replicas rep_ts)
+    (both (calls_format replicas) (leading (order_format m (replicas + 1)) (λ order.
+    both (frozen_format m (replicas + 1) opened (part rep_ts replicas) order) marks_format))))
 
 -- what stands before these lists: the replica, its views, its stamps and its table
 abbrev pub front_format : ℕ → Whose → Format Front
@@ -217,9 +216,9 @@ lists_of s = record {
 }
 
 -- the stable bytes of a replica's state
-abbrev pub state_format : {Value Op : Type 0} → Meaning Value Op → (Bytes → Option Op) → ℕ → Whose
+abbrev pub state_format : {Value Op : Type 0} → Meaning Value Op → Encoding Value → ℕ → Whose
     → Format (StableState Value Op)
-state_format m op_of service whose = renamed
+state_format m e service whose = renamed
     (λ it. state_with it.0 it.1.0 it.1.1) (λ s. (front_of s, (lists_of s, s.value)))
     (leading (front_format service whose) (λ front.
-    both (lists_format m op_of front.head.replicas front.stamps.rep_ts front.views.opened) (value_format m)))
+    both (lists_format m front.head.replicas front.stamps.rep_ts front.views.opened) (value_format e)))

@@ -9,7 +9,7 @@ use crate::heads::Whose;
 use crate::state::StableState;
 use crate::states::state_field;
 use crate::writing_states::put_state;
-use lr_base::lr_service::Legible;
+use lr_base::lr_service::Service;
 use lr_base::{BadWhat, GetFault, NoMemory, Rows, decoded};
 use std::alloc::Global;
 use thiserror::Error;
@@ -25,14 +25,14 @@ pub enum CodecFault {
 }
 
 /// The state that is spelled so. Other bytes are refused at the first wrong field.
-pub fn decode<S: Legible>(alloc: Global, bytes: &[u8]) -> Result<StableState<S>, CodecFault>
-    ensures { ReadsWhole (decoded_in (state_format S.meaning S.op_of S.NUMBER None) bytes.now) result }
+pub fn decode<S: Service>(alloc: Global, bytes: &[u8]) -> Result<StableState<S>, CodecFault>
+    ensures { ReadsWhole (decoded_in (state_format S.meaning S.encoding S.NUMBER None) bytes.now) result }
 {
     decode_of(alloc, None, bytes)
 }
 
 // The service's number, which a byte has room for.
-fn service_number<S: Legible>() -> u8
+fn service_number<S: Service>() -> u8
     ensures number { result ≡ S.NUMBER }
     ensures below { S.NUMBER < 256 }
 {
@@ -40,11 +40,11 @@ fn service_number<S: Legible>() -> u8
 }
 
 /// The one spelling of a state in the ranges.
-pub fn encode<S: Legible>(alloc: Global, state: &StableState<S>) -> Result<Rows<u8>, NoMemory>
-    requires { is_in_ranges S.meaning state.now ≡ true }
+pub fn encode<S: Service>(alloc: Global, state: &StableState<S>) -> Result<Rows<u8>, NoMemory>
+    requires { is_in_ranges S.meaning S.encoding state.now ≡ true }
     ensures spelling { IfOk result (λ bytes. bytes
-        ≡ (state_format S.meaning S.op_of S.NUMBER None).written state.now) }
-    ensures real { IfOk result (λ bytes. (state_format S.meaning S.op_of S.NUMBER None).is_value state.now ≡ true) }
+        ≡ (state_format S.meaning S.encoding S.NUMBER None).written state.now) }
+    ensures real { IfOk result (λ bytes. (state_format S.meaning S.encoding S.NUMBER None).is_value state.now ≡ true) }
 {
     let _below = service_number::<S>();
     let mut out = Rows::new(alloc);
@@ -54,24 +54,24 @@ pub fn encode<S: Legible>(alloc: Global, state: &StableState<S>) -> Result<Rows<
 
 /// The state of one replica of so many that is spelled so. The bytes of another are refused at the count or at the
 /// replica's number, whatever is wrong behind it.
-pub fn decode_own<S: Legible>(
+pub fn decode_own<S: Service>(
     alloc: Global,
     replicas: u8,
     me: u8,
     bytes: &[u8],
 ) -> Result<StableState<S>, CodecFault>
-    ensures { ReadsWhole (decoded_in (state_format S.meaning S.op_of S.NUMBER (Some (replicas, me))) bytes.now) result }
+    ensures { ReadsWhole (decoded_in (state_format S.meaning S.encoding S.NUMBER (Some (replicas, me))) bytes.now) result }
 {
     decode_of(alloc, Some((replicas, me)), bytes)
 }
 
 // The state that is spelled so, where it is wanted.
-fn decode_of<S: Legible>(
+fn decode_of<S: Service>(
     alloc: Global,
     whose: Whose,
     bytes: &[u8],
 ) -> Result<StableState<S>, CodecFault>
-    ensures { ReadsWhole (decoded_in (state_format S.meaning S.op_of S.NUMBER whose) bytes.now) result }
+    ensures { ReadsWhole (decoded_in (state_format S.meaning S.encoding S.NUMBER whose) bytes.now) result }
 {
     match decoded(bytes, state_field::<S>(alloc, whose, bytes)) {
         Ok(state) => Ok(state),

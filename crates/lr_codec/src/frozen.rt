@@ -10,7 +10,7 @@ ghost use Rattle.lr_codec.specs.States.{is_free, may_freeze, numbered_format};
 
 use crate::lists::{MOST_ENTRIES, OrderLog};
 use crate::parts::{Wanted, op_field, stamp_field};
-use lr_base::lr_service::Legible;
+use lr_base::lr_service::Service;
 use lr_base::{
     BadWhat, Call, Cid, Entry, FieldFault, LAST_NUMBER, byte_field, fault_at, number_field,
     short_field,
@@ -89,14 +89,14 @@ fn frozen_number_field<'a, O>(
 }
 
 // The call that is frozen.
-fn frozen_call_field<'a, S: Legible>(
+fn frozen_call_field<'a, S: Service>(
     alloc: Global,
     parts: u8,
     entries: &[Entry<S::Op>],
     bytes: &'a [u8],
 ) -> Result<(Call<S::Op>, &'a [u8]), FieldFault>
     requires { parts ≤ most_parts }
-    ensures { Reads ((frozen_call_format S.meaning S.op_of parts entries.now).field bytes.now) result }
+    ensures { Reads ((frozen_call_format S.meaning parts entries.now).field bytes.now) result }
 {
     let (cid, rest) = free_cid_field(entries, bytes)?;
     let (prev, rest) = stamp_field(parts, rest)?;
@@ -105,14 +105,14 @@ fn frozen_call_field<'a, S: Legible>(
 }
 
 // The number and the call.
-fn numbered_field<'a, S: Legible>(
+fn numbered_field<'a, S: Service>(
     alloc: Global,
     parts: u8,
     order: &OrderLog<S::Op>,
     bytes: &'a [u8],
 ) -> Result<((u64, Call<S::Op>), &'a [u8]), FieldFault>
     requires { parts ≤ most_parts }
-    ensures { Reads ((numbered_format S.meaning S.op_of parts order.now).field bytes.now) result }
+    ensures { Reads ((numbered_format S.meaning parts order.now).field bytes.now) result }
 {
     let (number, rest) = frozen_number_field(order, bytes)?;
     let (call, end) = frozen_call_field::<S>(alloc, parts, order.1.as_slice(), rest)?;
@@ -123,7 +123,7 @@ fn numbered_field<'a, S: Legible>(
 pub(crate) type Frozen<O> = Option<(u64, Call<O>)>;
 
 // The call being frozen, if there is one.
-pub(crate) fn frozen_field<'a, S: Legible>(
+pub(crate) fn frozen_field<'a, S: Service>(
     alloc: Global,
     parts: u8,
     may: bool,
@@ -131,7 +131,7 @@ pub(crate) fn frozen_field<'a, S: Legible>(
     bytes: &'a [u8],
 ) -> Result<(Frozen<S::Op>, &'a [u8]), FieldFault>
     requires { parts ≤ most_parts }
-    ensures { Reads ((optional may (numbered_format S.meaning S.op_of parts order.now)).field bytes.now) result }
+    ensures { Reads ((optional may (numbered_format S.meaning parts order.now)).field bytes.now) result }
 {
     let (tag, rest) = byte_field(bytes)?;
     if tag == 0 {

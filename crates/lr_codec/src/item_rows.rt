@@ -13,7 +13,7 @@ ghost use Rattle.lr_codec.specs.Lists.{place_format, received_format, spot_forma
 use crate::items::Item;
 use crate::parts::{Wanted, cid_field, op_field, stamp_field};
 use crate::rows::ReadRow;
-use lr_base::lr_service::Legible;
+use lr_base::lr_service::Service;
 use lr_base::{
     BadWhat, Cid, FieldFault, LogAck, LogUpdate, Spot, Stamp, byte_field, fault_at, number_field,
 };
@@ -84,7 +84,7 @@ fn spot_field<'a>(
 
 /// What reads the items of a log.
 #[derive(Drop)]
-pub(crate) struct ItemRows<S: Legible> {
+pub(crate) struct ItemRows<S: Service> {
     pub(crate) alloc: Global,
     pub(crate) replicas: u8,
     pub(crate) rep_ts: Stamp,
@@ -93,10 +93,10 @@ pub(crate) struct ItemRows<S: Legible> {
     ghost few: { replicas + 1 ≤ most_parts },
 }
 
-impl<S: Legible> ReadRow for ItemRows<S> {
+impl<S: Service> ReadRow for ItemRows<S> {
     type Row = Item<S::Op>;
 
-    ghost format = { λ it last. item_format S.meaning S.op_of it.replicas it.rep_ts last };
+    ghost format = { λ it last. item_format S.meaning it.replicas it.rep_ts last };
 
     fn row_field<'a>(
         &self,
@@ -128,7 +128,7 @@ fn is_next_spot<O>(before: &[Item<O>], spot: Spot) -> bool
 }
 
 // The rest of an update.
-fn update_field<S: Legible>(
+fn update_field<S: Service>(
     alloc: Global,
     replicas: u8,
     spot: Spot,
@@ -137,7 +137,7 @@ fn update_field<S: Legible>(
 ) -> Result<(Item<S::Op>, &[u8]), FieldFault>
     requires { replicas + 1 ≤ most_parts }
     ensures { Reads (and_then
-        ((both (stamp_format (replicas + 1)) (op_format S.meaning S.op_of is_update)).field bytes.now)
+        ((both (stamp_format (replicas + 1)) (op_format S.meaning is_update)).field bytes.now)
         (λ update rest. Found (item_with spot cid (inl update)) rest)) result }
 {
     let (prev, rest) = stamp_field(replicas + 1, bytes)?;

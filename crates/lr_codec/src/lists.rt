@@ -12,7 +12,7 @@ use crate::item_rows::ItemRows;
 use crate::items::Item;
 use crate::readers::{CallRows, EntryRows, MarkRows, StampRows};
 use crate::rows::rows_field;
-use lr_base::lr_service::Legible;
+use lr_base::lr_service::Service;
 use lr_base::{
     BadWhat, Cid, Entry, FieldFault, Known, LAST_NUMBER, LogAck, LogUpdate, NoMemory, Rows, Stamp,
     count_field, fault_at, number_field, short_field,
@@ -58,14 +58,14 @@ fn split<O: Drop>(alloc: Global, items: Vec<Item<O>>) -> Result<Logged<O>, NoMem
 }
 
 // The log.
-pub(crate) fn log_field<'a, S: Legible>(
+pub(crate) fn log_field<'a, S: Service>(
     alloc: Global,
     replicas: u8,
     rep_ts: &Stamp,
     bytes: &'a [u8],
 ) -> Result<(Logged<S::Op>, &'a [u8]), FieldFault>
     requires { replicas + 1 ≤ most_parts }
-    ensures { Reads ((log_format S.meaning S.op_of replicas rep_ts.now).field bytes.now) result }
+    ensures { Reads ((log_format S.meaning replicas rep_ts.now).field bytes.now) result }
 {
     let (count, rest) = count_field(bytes)?;
     let reader = ItemRows::<S> {
@@ -104,13 +104,13 @@ fn entry_count_field(base: u64, bytes: &[u8]) -> Result<(u32, &[u8]), FieldFault
 }
 
 // The order log.
-pub(crate) fn order_field<S: Legible>(
+pub(crate) fn order_field<S: Service>(
     alloc: Global,
     parts: u8,
     bytes: &[u8],
 ) -> Result<(OrderLog<S::Op>, &[u8]), FieldFault>
     requires { parts ≤ most_parts }
-    ensures { Reads ((order_format S.meaning S.op_of parts).field bytes.now) result }
+    ensures { Reads ((order_format S.meaning parts).field bytes.now) result }
 {
     let (base, rest) = number_field(bytes)?;
     let (entries, end) = entries_field::<S>(alloc, parts, base, rest)?;
@@ -118,14 +118,14 @@ pub(crate) fn order_field<S: Legible>(
 }
 
 // The entries behind a base.
-fn entries_field<S: Legible>(
+fn entries_field<S: Service>(
     alloc: Global,
     parts: u8,
     base: u64,
     bytes: &[u8],
 ) -> Result<(Rows<Entry<S::Op>>, &[u8]), FieldFault>
     requires { parts ≤ most_parts }
-    ensures { Reads ((listed (entry_count_format base) (λ last. entry_format S.meaning S.op_of parts)).field bytes.now)
+    ensures { Reads ((listed (entry_count_format base) (λ last. entry_format S.meaning parts)).field bytes.now)
         result }
 {
     let (count, rest) = entry_count_field(base, bytes)?;

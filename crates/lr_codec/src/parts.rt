@@ -7,7 +7,7 @@ ghost use Rattle.lr_codec.specs.Parts.{sized, stamp_format, value_format, value_
 ghost use Rattle.lr_codec.specs.Wanted.{passes};
 
 use byteorder::{BigEndian, ByteOrder};
-use lr_base::lr_service::{Kind, Legible, OpFault, Service};
+use lr_base::lr_service::{Kind, OpFault, Service};
 use lr_base::{
     BadWhat, Cid, FieldFault, GetFault, LAST_NUMBER, NoMemory, Stamp, count_field, fault_at,
     number_field, short_field,
@@ -90,8 +90,8 @@ fn pair_field(bytes: &[u8]) -> Result<(u16, &[u8]), FieldFault>
 }
 
 // The operation that is written so, if there is one.
-fn op_of<S: Legible>(alloc: Global, text: &[u8]) -> Result<Option<S::Op>, NoMemory>
-    ensures { IfOk result (λ found. found ≡ S.op_of text.now) }
+fn op_of<S: Service>(alloc: Global, text: &[u8]) -> Result<Option<S::Op>, NoMemory>
+    ensures { IfOk result (λ found. found ≡ S.meaning.op_of text.now) }
 {
     match S::read_op(alloc, text) {
         Ok(op) => Ok(Some(op)),
@@ -101,25 +101,25 @@ fn op_of<S: Legible>(alloc: Global, text: &[u8]) -> Result<Option<S::Op>, NoMemo
 }
 
 // An operation that may stand there: its length, and its text.
-pub(crate) fn op_field<S: Legible>(
+pub(crate) fn op_field<S: Service>(
     alloc: Global,
     wanted: Wanted,
     bytes: &[u8],
 ) -> Result<(S::Op, &[u8]), FieldFault>
-    ensures { Reads ((op_format S.meaning S.op_of (passes wanted)).field bytes.now) result }
+    ensures { Reads ((op_format S.meaning (passes wanted)).field bytes.now) result }
 {
     let (size, rest) = pair_field(bytes)?;
     text_field::<S>(alloc, wanted, usize::from(size), rest)
 }
 
 // The text of an operation.
-fn text_field<S: Legible>(
+fn text_field<S: Service>(
     alloc: Global,
     wanted: Wanted,
     size: usize,
     bytes: &[u8],
 ) -> Result<(S::Op, &[u8]), FieldFault>
-    ensures { Reads (sized (λ bytes text rest. op_found S.meaning (passes wanted) bytes rest (S.op_of text))
+    ensures { Reads (sized (λ bytes text rest. op_found S.meaning (passes wanted) bytes rest (S.meaning.op_of text))
         size bytes.now) result }
 {
     if bytes.len() < size {
@@ -139,7 +139,7 @@ fn text_field<S: Legible>(
 
 // The service's value: the length of its bytes, and these.
 pub(crate) fn value_field<S: Service>(alloc: Global, bytes: &[u8]) -> Result<(S, &[u8]), FieldFault>
-    ensures { Reads ((value_format S.meaning).field bytes.now) result }
+    ensures { Reads ((value_format S.encoding).field bytes.now) result }
 {
     let (size, rest) = count_field(bytes)?;
     spelling_field::<S>(alloc, size, rest)
@@ -151,7 +151,7 @@ fn spelling_field<S: Service>(
     size: u64,
     bytes: &[u8],
 ) -> Result<(S, &[u8]), FieldFault>
-    ensures { Reads (sized (λ bytes text rest. value_found bytes rest (S.meaning.decoded text)) size bytes.now) result }
+    ensures { Reads (sized (λ bytes text rest. value_found bytes rest (S.encoding.decoded text)) size bytes.now) result }
 {
     if (bytes.len() as u64) < size {
         return Err(fault_at(bytes, BadWhat::Short));

@@ -9,7 +9,7 @@ ghost use Rattle.lr_codec.specs.Parts.{byte_where, cid_format, part_format, stam
 
 use crate::parts::{Wanted, cid_field, item_number_field, op_field, part_field, stamp_field};
 use crate::rows::ReadRow;
-use lr_base::lr_service::{Kind, Legible};
+use lr_base::lr_service::{Kind, Service};
 use lr_base::{BadWhat, Call, Cid, Entry, FieldFault, Known, Spot, Stamp, byte_field, fault_at};
 use std::alloc::Global;
 use std::marker::PhantomData;
@@ -98,7 +98,7 @@ fn call_place_field(replicas: u8, bytes: &[u8]) -> Result<(u8, &[u8]), FieldFaul
 
 /// What reads the entries of an order log.
 #[derive(Drop)]
-pub(crate) struct EntryRows<S: Legible> {
+pub(crate) struct EntryRows<S: Service> {
     pub(crate) alloc: Global,
     pub(crate) parts: u8,
     pub(crate) service: PhantomData<S>,
@@ -106,10 +106,10 @@ pub(crate) struct EntryRows<S: Legible> {
     ghost few: { parts ≤ most_parts },
 }
 
-impl<S: Legible> ReadRow for EntryRows<S> {
+impl<S: Service> ReadRow for EntryRows<S> {
     type Row = Entry<S::Op>;
 
-    ghost format = { λ it last. entry_format S.meaning S.op_of it.parts };
+    ghost format = { λ it last. entry_format S.meaning it.parts };
 
     fn row_field<'a>(
         &self,

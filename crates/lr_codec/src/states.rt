@@ -10,7 +10,7 @@ use crate::item_rows::received_of;
 use crate::lists::{calls_field, log_field, marks_field, order_field, table_field};
 use crate::parts::value_field;
 use crate::state::StableState;
-use lr_base::lr_service::Legible;
+use lr_base::lr_service::Service;
 use lr_base::{Cid, Entry, FieldFault, Known, LogAck, LogUpdate, Rows, Stamp};
 use std::alloc::Global;
 
@@ -27,7 +27,7 @@ pub(crate) struct Lists<O> {
 }
 
 // What stands before the lists.
-fn front_field<S: Legible>(
+fn front_field<S: Service>(
     alloc: Global,
     whose: Whose,
     bytes: &[u8],
@@ -49,7 +49,7 @@ fn front_field<S: Legible>(
 }
 
 // The lists of a replica that received so much.
-fn lists_field<'a, S: Legible>(
+fn lists_field<'a, S: Service>(
     alloc: Global,
     replicas: u8,
     rep_ts: &Stamp,
@@ -57,7 +57,7 @@ fn lists_field<'a, S: Legible>(
     bytes: &'a [u8],
 ) -> Result<(Lists<S::Op>, &'a [u8]), FieldFault>
     requires { replicas + 1 ≤ most_parts }
-    ensures { Reads ((lists_format S.meaning S.op_of replicas rep_ts.now opened).field bytes.now) result }
+    ensures { Reads ((lists_format S.meaning replicas rep_ts.now opened).field bytes.now) result }
 {
     let (log, rest) = log_field::<S>(alloc, replicas, rep_ts, bytes)?;
     let (calls, rest) = calls_field(alloc, replicas, rest)?;
@@ -80,7 +80,7 @@ fn lists_field<'a, S: Legible>(
 }
 
 // A state of these parts.
-fn state_with<S: Legible>(front: Front, lists: Lists<S::Op>, value: S) -> StableState<S>
+fn state_with<S: Service>(front: Front, lists: Lists<S::Op>, value: S) -> StableState<S>
     ensures { result ≡ state_with front lists value }
 {
     let stamps = front.stamps;
@@ -109,12 +109,12 @@ fn state_with<S: Legible>(front: Front, lists: Lists<S::Op>, value: S) -> Stable
 }
 
 /// The state that the bytes begin with.
-pub(crate) fn state_field<S: Legible>(
+pub(crate) fn state_field<S: Service>(
     alloc: Global,
     whose: Whose,
     bytes: &[u8],
 ) -> Result<(StableState<S>, &[u8]), FieldFault>
-    ensures { Reads ((state_format S.meaning S.op_of S.NUMBER whose).field bytes.now) result }
+    ensures { Reads ((state_format S.meaning S.encoding S.NUMBER whose).field bytes.now) result }
 {
     let (front, rest) = front_field::<S>(alloc, whose, bytes)?;
     let replicas = front.head.replicas;

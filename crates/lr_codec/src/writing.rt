@@ -4,7 +4,7 @@ ghost use Rattle.byteorder.specs.Endian.{big_bytes};
 ghost use Rattle.lr_codec.specs.Parts.{cid_format, is_update, op_format, value_format};
 
 use byteorder::{BigEndian, ByteOrder};
-use lr_base::lr_service::{Legible, Service};
+use lr_base::lr_service::Service;
 use lr_base::{
     Cid, NoMemory, Rows, Stamp, Text, put_count_field, put_number_field, put_short_field,
 };
@@ -42,14 +42,15 @@ fn text_of<S: Service>(op: &S::Op, out: &Text) -> Result<Text, NoMemory>
     ensures short { IfOk result (λ text. length text < 2 ^ 16) }
     ensures real { IfOk result (λ text. S.meaning.is_op op.now ≡ true) }
 {
+    S::own_op(op);
     let mut text = Rows::new(out.allocator());
     S::print_op(op, &mut text)?;
     Ok(text)
 }
 
 // Adds the length and the text of an operation behind `out`.
-pub(crate) fn put_op<S: Legible>(op: &S::Op, out: &mut Text) -> Result<(), NoMemory>
-    ensures ok { OnOk result (out.new ≡ out.old ++ (op_format S.meaning S.op_of is_update).written op.now) }
+pub(crate) fn put_op<S: Service>(op: &S::Op, out: &mut Text) -> Result<(), NoMemory>
+    ensures ok { OnOk result (out.new ≡ out.old ++ (op_format S.meaning is_update).written op.now) }
     ensures real { OnOk result (S.meaning.is_op op.now ≡ true) }
 {
     let text = text_of::<S>(op, out)?;
@@ -59,8 +60,8 @@ pub(crate) fn put_op<S: Legible>(op: &S::Op, out: &mut Text) -> Result<(), NoMem
 
 // Adds the length of a value's bytes behind `out`, and these.
 pub(crate) fn put_value<S: Service>(value: &S, out: &mut Text) -> Result<(), NoMemory>
-    ensures ok { OnOk result (out.new ≡ out.old ++ (value_format S.meaning).written value.now) }
-    ensures real { OnOk result (S.meaning.is_value value.now ≡ true) }
+    ensures ok { OnOk result (out.new ≡ out.old ++ (value_format S.encoding).written value.now) }
+    ensures real { OnOk result (S.encoding.is_value value.now ≡ true) }
 {
     let mut text = Rows::new(out.allocator());
     value.put(&mut text)?;

@@ -9,7 +9,7 @@ ghost use Rattle.lr_codec.specs.Lists.{item_bytes, merged, only_acks, placed, sp
 ghost use Rattle.lr_codec.specs.Ranges.{is_own_update};
 
 use crate::writing::{put_cid, put_op, put_stamp};
-use lr_base::lr_service::Legible;
+use lr_base::lr_service::Service;
 use lr_base::{LogAck, LogUpdate, NoMemory, Spot, Text, put_byte_field, put_number_field};
 
 // Adds an item's tag and its spot behind `out`.
@@ -22,8 +22,8 @@ fn put_spot(tag: u8, spot: Spot, out: &mut Text) -> Result<(), NoMemory>
 }
 
 // Adds an update behind `out`.
-fn put_update<S: Legible>(update: &LogUpdate<S::Op>, out: &mut Text) -> Result<(), NoMemory>
-    ensures ok { OnOk result (out.new ≡ out.old ++ item_bytes S.meaning S.op_of (item.Update update.now)) }
+fn put_update<S: Service>(update: &LogUpdate<S::Op>, out: &mut Text) -> Result<(), NoMemory>
+    ensures ok { OnOk result (out.new ≡ out.old ++ item_bytes S.meaning (item.Update update.now)) }
     ensures real { OnOk result (is_own_update S.meaning update.now ≡ true) }
 {
     put_spot(1, update.spot, out)?;
@@ -33,8 +33,8 @@ fn put_update<S: Legible>(update: &LogUpdate<S::Op>, out: &mut Text) -> Result<(
 }
 
 // Adds an acknowledgement behind `out`.
-fn put_ack<S: Legible>(ack: &LogAck, out: &mut Text) -> Result<(), NoMemory>
-    ensures { OnOk result (out.new ≡ out.old ++ item_bytes S.meaning S.op_of (item.Ack ack.now)) }
+fn put_ack<S: Service>(ack: &LogAck, out: &mut Text) -> Result<(), NoMemory>
+    ensures { OnOk result (out.new ≡ out.old ++ item_bytes S.meaning (item.Ack ack.now)) }
 {
     put_spot(2, ack.spot, out)?;
     put_cid(ack.cid, out)?;
@@ -50,15 +50,15 @@ fn stands_before(a: Spot, b: Spot) -> bool
 
 // Adds the acknowledgements from this index on that stand before the update behind `out`. The others begin at the index
 // that is answered.
-fn put_acks_before<S: Legible>(
+fn put_acks_before<S: Service>(
     update: &LogUpdate<S::Op>,
     acks: &[LogAck],
     from: usize,
     out: &mut Text,
 ) -> Result<usize, NoMemory>
     ensures { IfOk result (λ to. (behind : List LoggedAck → List (Item S.Op))
-        → out.new ++ flat_map (item_bytes S.meaning S.op_of) (item.Update update.now ∷ behind (drop to acks.now))
-        ≡ out.old ++ flat_map (item_bytes S.meaning S.op_of) (placed update.now (drop from acks.now) behind)) }
+        → out.new ++ flat_map (item_bytes S.meaning) (item.Update update.now ∷ behind (drop to acks.now))
+        ≡ out.old ++ flat_map (item_bytes S.meaning) (placed update.now (drop from acks.now) behind)) }
 {
     for place in from..acks.len() {
         if !stands_before(acks[place].spot, update.spot) {
@@ -70,9 +70,9 @@ fn put_acks_before<S: Legible>(
 }
 
 // Adds each acknowledgement from this index on behind `out`.
-fn put_acks<S: Legible>(acks: &[LogAck], from: usize, out: &mut Text) -> Result<(), NoMemory>
+fn put_acks<S: Service>(acks: &[LogAck], from: usize, out: &mut Text) -> Result<(), NoMemory>
     ensures { OnOk result (out.new
-        ≡ out.old ++ flat_map (item_bytes S.meaning S.op_of) (only_acks (drop from acks.now))) }
+        ≡ out.old ++ flat_map (item_bytes S.meaning) (only_acks (drop from acks.now))) }
 {
     for place in from..acks.len() {
         put_ack::<S>(&acks[place], out)?;
@@ -81,13 +81,13 @@ fn put_acks<S: Legible>(acks: &[LogAck], from: usize, out: &mut Text) -> Result<
 }
 
 // Adds the items behind `out`.
-pub(crate) fn put_items<S: Legible>(
+pub(crate) fn put_items<S: Service>(
     updates: &[LogUpdate<S::Op>],
     acks: &[LogAck],
     out: &mut Text,
 ) -> Result<(), NoMemory>
     ensures ok { OnOk result (out.new
-        ≡ out.old ++ flat_map (item_bytes S.meaning S.op_of) (merged updates.now acks.now)) }
+        ≡ out.old ++ flat_map (item_bytes S.meaning) (merged updates.now acks.now)) }
     ensures real { OnOk result (list_all (is_own_update S.meaning) updates.now ≡ true) }
 {
     let mut from = 0;

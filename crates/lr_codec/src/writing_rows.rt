@@ -7,7 +7,7 @@ ghost use Rattle.lr_codec.specs.Ranges.{is_own_entry};
 use crate::readers::{CallRows, EntryRows, MarkRows, StampRows};
 use crate::rows::ReadRow;
 use crate::writing::{put_cid, put_op, put_stamp};
-use lr_base::lr_service::Legible;
+use lr_base::lr_service::Service;
 use lr_base::{Cid, Entry, Known, NoMemory, Stamp, Text, put_byte_field, put_number_field};
 
 /// What also writes the elements of a list.
@@ -71,7 +71,7 @@ fn put_known(known: &Known, out: &mut Text) -> Result<(), NoMemory>
     put_stamp(&known.stamp, out)
 }
 
-impl<S: Legible> PutRow for EntryRows<S> {
+impl<S: Service> PutRow for EntryRows<S> {
     ghost is_own = { λ it row. is_own_entry S.meaning row };
 
     fn put_row(&self, row: &Entry<S::Op>, out: &mut Text) -> Result<(), NoMemory> {

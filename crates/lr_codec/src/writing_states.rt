@@ -16,7 +16,7 @@ use crate::state::StableState;
 use crate::writing::{put_cid, put_op, put_stamp, put_value};
 use crate::writing_log::put_items;
 use crate::writing_rows::put_rows;
-use lr_base::lr_service::Legible;
+use lr_base::lr_service::Service;
 use lr_base::{
     Call, Cid, Entry, Known, LogAck, LogUpdate, NoMemory, Text, put_byte_field, put_count_field,
     put_number_field, put_short_field,
@@ -24,7 +24,7 @@ use lr_base::{
 use std::marker::PhantomData;
 
 // Adds what the bytes begin with behind `out`.
-fn put_head<S: Legible>(head: Head, out: &mut Text) -> Result<(), NoMemory>
+fn put_head<S: Service>(head: Head, out: &mut Text) -> Result<(), NoMemory>
     ensures { OnOk result (out.new ≡ out.old ++ (head_format S.NUMBER None).written head) }
 {
     put_short_field(MAGIC, out)?;
@@ -62,7 +62,7 @@ fn put_views(head: Head, views: Views, out: &mut Text) -> Result<(), NoMemory>
 }
 
 // Adds the stamps behind `out`.
-fn put_stamps<S: Legible>(state: &StableState<S>, out: &mut Text) -> Result<(), NoMemory>
+fn put_stamps<S: Service>(state: &StableState<S>, out: &mut Text) -> Result<(), NoMemory>
     ensures { OnOk result (out.new ≡ out.old ++ (stamps_format 0).written (stamps_of state.now)) }
 {
     put_stamp(&state.rep_ts, out)?;
@@ -73,7 +73,7 @@ fn put_stamps<S: Legible>(state: &StableState<S>, out: &mut Text) -> Result<(), 
 }
 
 // Adds what stands before the lists behind `out`.
-fn put_front<S: Legible>(state: &StableState<S>, out: &mut Text) -> Result<(), NoMemory>
+fn put_front<S: Service>(state: &StableState<S>, out: &mut Text) -> Result<(), NoMemory>
     ensures { OnOk result (out.new ≡ out.old ++ (front_format S.NUMBER None).written (front_of state.now)) }
 {
     let head = Head {
@@ -93,13 +93,13 @@ fn put_front<S: Legible>(state: &StableState<S>, out: &mut Text) -> Result<(), N
 }
 
 // Adds the log behind `out`.
-fn put_log<S: Legible>(
+fn put_log<S: Service>(
     updates: &[LogUpdate<S::Op>],
     acks: &[LogAck],
     out: &mut Text,
 ) -> Result<(), NoMemory>
     ensures ok { OnOk result (out.new
-        ≡ out.old ++ (log_format S.meaning S.op_of 0 []).written (updates.now, acks.now)) }
+        ≡ out.old ++ (log_format S.meaning 0 []).written (updates.now, acks.now)) }
     ensures real { OnOk result (list_all (is_own_update S.meaning) updates.now ≡ true) }
 {
     put_count_field(updates.len() as u64 + acks.len() as u64, out)?;
@@ -115,14 +115,14 @@ fn put_calls(calls: &[(Cid, Known)], out: &mut Text) -> Result<(), NoMemory>
 }
 
 // Adds the order log behind `out`.
-fn put_order<S: Legible>(
+fn put_order<S: Service>(
     base: u64,
     entries: &[Entry<S::Op>],
     out: &mut Text,
 ) -> Result<(), NoMemory>
     requires { length entries.now ≤ 64 }
     ensures ok { OnOk result (out.new
-        ≡ out.old ++ (order_format S.meaning S.op_of 0).written (base, entries.now)) }
+        ≡ out.old ++ (order_format S.meaning 0).written (base, entries.now)) }
     ensures real { OnOk result (list_all (is_own_entry S.meaning) entries.now ≡ true) }
 {
     put_number_field(base, out)?;
@@ -130,10 +130,10 @@ fn put_order<S: Legible>(
 }
 
 // Adds the count of the entries behind `out`, and these.
-fn put_entries<S: Legible>(entries: &[Entry<S::Op>], out: &mut Text) -> Result<(), NoMemory>
+fn put_entries<S: Service>(entries: &[Entry<S::Op>], out: &mut Text) -> Result<(), NoMemory>
     requires { length entries.now ≤ 64 }
     ensures ok { OnOk result (out.new
-        ≡ out.old ++ (listed (entry_count_format 0) (λ last. entry_format S.meaning S.op_of 0)).written entries.now) }
+        ≡ out.old ++ (listed (entry_count_format 0) (λ last. entry_format S.meaning 0)).written entries.now) }
     ensures real { OnOk result (list_all (is_own_entry S.meaning) entries.now ≡ true) }
 {
     put_short_field(entries.len() as u32, out)?;
@@ -146,8 +146,8 @@ fn put_entries<S: Legible>(entries: &[Entry<S::Op>], out: &mut Text) -> Result<(
 }
 
 // Adds the call that is frozen behind `out`.
-fn put_call<S: Legible>(call: &Call<S::Op>, out: &mut Text) -> Result<(), NoMemory>
-    ensures ok { OnOk result (out.new ≡ out.old ++ (frozen_call_format S.meaning S.op_of 0 []).written call.now) }
+fn put_call<S: Service>(call: &Call<S::Op>, out: &mut Text) -> Result<(), NoMemory>
+    ensures ok { OnOk result (out.new ≡ out.old ++ (frozen_call_format S.meaning 0 []).written call.now) }
     ensures real { OnOk result (S.meaning.is_op call.now.op ≡ true) }
 {
     put_cid(call.cid, out)?;
@@ -156,9 +156,9 @@ fn put_call<S: Legible>(call: &Call<S::Op>, out: &mut Text) -> Result<(), NoMemo
 }
 
 // Adds the number and the call behind `out`.
-fn put_numbered<S: Legible>(numbered: &(u64, Call<S::Op>), out: &mut Text) -> Result<(), NoMemory>
+fn put_numbered<S: Service>(numbered: &(u64, Call<S::Op>), out: &mut Text) -> Result<(), NoMemory>
     ensures ok { OnOk result (out.new
-        ≡ out.old ++ (numbered_format S.meaning S.op_of 0 (0, [])).written numbered.now) }
+        ≡ out.old ++ (numbered_format S.meaning 0 (0, [])).written numbered.now) }
     ensures real { OnOk result (S.meaning.is_op numbered.now.1.op ≡ true) }
 {
     put_number_field(numbered.0, out)?;
@@ -166,9 +166,9 @@ fn put_numbered<S: Legible>(numbered: &(u64, Call<S::Op>), out: &mut Text) -> Re
 }
 
 // Adds a byte 1, the number and the call behind `out`.
-fn put_some<S: Legible>(numbered: &(u64, Call<S::Op>), out: &mut Text) -> Result<(), NoMemory>
+fn put_some<S: Service>(numbered: &(u64, Call<S::Op>), out: &mut Text) -> Result<(), NoMemory>
     ensures ok { OnOk result (out.new
-        ≡ out.old ++ (frozen_format S.meaning S.op_of 0 true 0 (0, [])).written (Some numbered.now)) }
+        ≡ out.old ++ (frozen_format S.meaning 0 true 0 (0, [])).written (Some numbered.now)) }
     ensures real { OnOk result (S.meaning.is_op numbered.now.1.op ≡ true) }
 {
     put_byte_field(1, out)?;
@@ -176,9 +176,9 @@ fn put_some<S: Legible>(numbered: &(u64, Call<S::Op>), out: &mut Text) -> Result
 }
 
 // Adds the call being frozen behind `out`, or that there is none.
-fn put_frozen<S: Legible>(frozen: &Frozen<S::Op>, out: &mut Text) -> Result<(), NoMemory>
+fn put_frozen<S: Service>(frozen: &Frozen<S::Op>, out: &mut Text) -> Result<(), NoMemory>
     ensures ok { OnOk result (out.new
-        ≡ out.old ++ (frozen_format S.meaning S.op_of 0 true 0 (0, [])).written frozen.now) }
+        ≡ out.old ++ (frozen_format S.meaning 0 true 0 (0, [])).written frozen.now) }
     ensures real { OnOk result (is_own_frozen S.meaning frozen.now ≡ true) }
 {
     match frozen {
@@ -196,10 +196,10 @@ fn put_marks(marks: &[(u64, u64)], out: &mut Text) -> Result<(), NoMemory>
 }
 
 // Adds the lists behind `out`.
-fn put_lists<S: Legible>(state: &StableState<S>, out: &mut Text) -> Result<(), NoMemory>
+fn put_lists<S: Service>(state: &StableState<S>, out: &mut Text) -> Result<(), NoMemory>
     requires { length state.now.entries ≤ 64 }
     ensures ok { OnOk result (out.new
-        ≡ out.old ++ (lists_format S.meaning S.op_of 0 [] true).written (lists_of state.now)) }
+        ≡ out.old ++ (lists_format S.meaning 0 [] true).written (lists_of state.now)) }
     ensures real { OnOk result ((list_all (is_own_update S.meaning) state.now.updates
         && (list_all (is_own_entry S.meaning) state.now.entries && is_own_frozen S.meaning state.now.frozen)) ≡ true) }
 {
@@ -211,11 +211,11 @@ fn put_lists<S: Legible>(state: &StableState<S>, out: &mut Text) -> Result<(), N
 }
 
 /// Adds the bytes of a state behind `out`.
-pub(crate) fn put_state<S: Legible>(state: &StableState<S>, out: &mut Text) -> Result<(), NoMemory>
+pub(crate) fn put_state<S: Service>(state: &StableState<S>, out: &mut Text) -> Result<(), NoMemory>
     requires { length state.now.entries ≤ 64 }
     ensures ok { OnOk result (out.new
-        ≡ out.old ++ (state_format S.meaning S.op_of S.NUMBER None).written state.now) }
-    ensures real { OnOk result (is_own S.meaning state.now ≡ true) }
+        ≡ out.old ++ (state_format S.meaning S.encoding S.NUMBER None).written state.now) }
+    ensures real { OnOk result (is_own S.meaning S.encoding state.now ≡ true) }
 {
     put_front(state, out)?;
     put_lists(state, out)?;

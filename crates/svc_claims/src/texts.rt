@@ -86,8 +86,7 @@ fn who_of(rest: &[u8]) -> Option<ClaimsOp>
 
 // Adds the operation's text behind `out`.
 pub(crate) fn put_op(op: &ClaimsOp, out: &mut Text) -> Result<(), NoMemory>
-    ensures ok { OnOk result (out.new ≡ out.old ++ claims_text op.now) }
-    ensures real { OnOk result (claims_is_op op.now ≡ true) }
+    ensures { OnOk result (out.new ≡ out.old ++ claims_text op.now) }
 {
     match op {
         ClaimsOp::Note { name, word } => {

@@ -82,8 +82,7 @@ fn read_of(rest: &[u8]) -> Option<MailOp>
 
 // Adds the operation's text behind `out`.
 pub(crate) fn put_op(op: &MailOp, out: &mut Text) -> Result<(), NoMemory>
-    ensures ok { OnOk result (out.new ≡ out.old ++ mail_text op.now) }
-    ensures real { OnOk result (mail_is_op op.now ≡ true) }
+    ensures { OnOk result (out.new ≡ out.old ++ mail_text op.now) }
 {
     match op {
         MailOp::Send { user, word } => {

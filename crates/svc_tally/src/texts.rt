@@ -58,8 +58,7 @@ fn read_of(rest: &[u8]) -> Option<TallyOp>
 
 // Adds the operation's text behind `out`.
 pub(crate) fn put_op(op: &TallyOp, out: &mut Text) -> Result<(), NoMemory>
-    ensures ok { OnOk result (out.new ≡ out.old ++ tally_text op.now) }
-    ensures real { OnOk result (tally_is_op op.now ≡ true) }
+    ensures { OnOk result (out.new ≡ out.old ++ tally_text op.now) }
 {
     match op {
         TallyOp::Add { name, amount } => {

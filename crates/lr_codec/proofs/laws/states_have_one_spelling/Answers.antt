@@ -9,13 +9,13 @@ pub returns-clause-spelling : goal.returns-clause-spelling
 returns-clause-spelling g c =
     let m = g.S.Service.meaning in
     let number = g.S.Service.NUMBER in
-    let exact = state-exact m g.S.Legible.op_of g.S.Op.Operation.kind_of g.met.S.Service.lawful
-    g.met.S.Legible.legible number None in
+    let e = g.S.Service.encoding in
+    let exact = state-exact m g.S.Op.Operation.kind_of g.met.S.Service.lawful number None in
     record {
-      spelled = spelled-in (state_format m g.S.Legible.op_of number None) exact;
-      one_spelling = one_spelling-in (state_format m g.S.Legible.op_of number None) exact;
+      spelled = spelled-in (state_format m e number None) exact;
+      one_spelling = one_spelling-in (state_format m e number None) exact;
     }
 
 pub returns-clause-ranges : goal.returns-clause-ranges
 returns-clause-ranges g c state below is own =
-    own-state g.S.Service.meaning g.S.Legible.op_of g.S.Service.NUMBER state below is own
+    own-state g.S.Service.meaning g.S.Service.encoding g.S.Service.NUMBER state below is own

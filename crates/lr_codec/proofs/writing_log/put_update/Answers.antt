@@ -15,7 +15,7 @@ returns-clause-ok g c =
     let spot = (leading tag_format (spot_format 0 [])).written (1, update.spot) in
     let cid = cid_format.written update.cid in
     let prev = flat_map (big_bytes 8) update.prev in
-    let op = (op_format g.S.Service.meaning g.S.Legible.op_of is_update).written update.op in
+    let op = (op_format g.S.Service.meaning is_update).written update.op in
     let third = then_put r c.put_cid.new.out prev op c.put_stamp.new.out new c.in_ok-put_stamp.ensures
     c.put_op.ensures.ok in
     let second = then_put r c.put_spot.new.out cid (prev ++ op) c.put_cid.new.out new c.in_ok-put_cid.ensures third in

@@ -8,7 +8,7 @@ use Rattle.lr_codec.proofs.writing_states.put_log.Goals as goal
 
 pub returns-clause-ok : goal.returns-clause-ok
 returns-clause-ok g c =
-    let bytes = item_bytes g.S.Service.meaning g.S.Legible.op_of in
+    let bytes = item_bytes g.S.Service.meaning in
     let items = merged c.args.updates.now c.args.acks.now in
     let count = c.in_ok-put_count_field.ensures
     ∙ ap (λ n. c.args.out.now ++ count_bytes n) (sym (length-merged c.args.updates.now c.args.acks.now)) in

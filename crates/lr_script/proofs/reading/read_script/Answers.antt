@@ -1,5 +1,6 @@
 use Rattle.std.proofs.Common.{Err, ap, rules}
 use Rattle.std.specs.Prelude.{IfOk, IfErr}
+use Rattle.lr_base.specs.OpLaws.{one-text}
 use Rattle.lr_script.specs.Faults.{IsScriptFault}
 use Rattle.lr_script.specs.Script.{IsScript}
 use Rattle.lr_script.specs.declared.heading.Header.{Header}
@@ -24,7 +25,7 @@ returns-in-Ok-clause-whole g c =
     let result = c.read_events.result in
     let ok : IfOk result (λ events. (header : Header) × IsScript m header events bytes) = search rules in
     let err : IfErr result (IsScriptFault m bytes) = search rules in
-    script_exactly m g.met.S.Service.lawful.printable_text bytes g.met.S.Service.lawful.one_text result ok err
+    script_exactly m g.met.S.Service.lawful.printable_text bytes (one-text g.S.Service.meaning g.met.S.Service.lawful) result ok err
 
 pub returns-in-Ok-clause-exact : goal.returns-in-Ok-clause-exact
 returns-in-Ok-clause-exact g c =
@@ -38,7 +39,7 @@ returns-in-Ok-clause-exact g c =
 pub returns-in-Err-clause-whole : goal.returns-in-Err-clause-whole
 returns-in-Err-clause-whole g c =
     let m = g.S.Service.meaning in
-    script_exactly m g.met.S.Service.lawful.printable_text c.args.bytes.now g.met.S.Service.lawful.one_text (Err c.in-Err.fault) tt (head_fault m c.args.bytes.now c.in-Err.fault c.in-Err.ensures.err)
+    script_exactly m g.met.S.Service.lawful.printable_text c.args.bytes.now (one-text g.S.Service.meaning g.met.S.Service.lawful) (Err c.in-Err.fault) tt (head_fault m c.args.bytes.now c.in-Err.fault c.in-Err.ensures.err)
 
 pub returns-in-Err-clause-exact : goal.returns-in-Err-clause-exact
 returns-in-Err-clause-exact g c =

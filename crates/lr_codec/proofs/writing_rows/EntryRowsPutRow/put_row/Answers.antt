@@ -13,7 +13,7 @@ returns-clause-ok g c =
     let cid = cid_format.written entry.call.cid in
     let prev = flat_map (big_bytes 8) entry.call.prev in
     let extra = flat_map (big_bytes 8) entry.extra in
-    let op = (op_format g.S.Service.meaning g.S.Legible.op_of is_update).written entry.call.op in
+    let op = (op_format g.S.Service.meaning is_update).written entry.call.op in
     let last = put_last r op c.put_stamp-2.new.out new c.put_op.ensures.ok in
     let fourth = then_put r c.put_stamp.new.out extra (op ++ []) c.put_stamp-2.new.out new c.in_ok-put_stamp-2.ensures
     last in
