@@ -6,12 +6,20 @@ use Rattle.lr_base.specs.declared.events.Event.{Event}
 use Rattle.lr_base.specs.declared.events.Event.TheVariants.{Call, Deliver, Gossip, Show}
 use Rattle.lr_base.specs.declared.names.Config.{Config}
 
--- an event names a client and replicas that there are, gossip names two of them,
+-- an event fits a run: it names a client and replicas that there are, gossip names two of them,
 -- and runs have rules for the kind of what is called
--- for example: `call 0 0 5 add x 3`, not `show 1` with one replica, nor `gossip 0 0`
-abbrev pub IsEventOf : {Value Op : Type 0} → Meaning Value Op → Config → Event Op → Type 0
-IsEventOf m config (Call client replica reading op) =
+abbrev pub FitsRun : {Value Op : Type 0} → Meaning Value Op → Config → Event Op → Type 0
+FitsRun m config (Call client replica reading op) =
     (client < config.clients) × (replica < config.replicas) × (has_rules (m.kind op) ≡ true)
-IsEventOf m config (Deliver message) = Unit {0}
-IsEventOf m config (Gossip from to) = (from < config.replicas) × (to < config.replicas) × (from ≢ to)
-IsEventOf m config (Show replica) = replica < config.replicas
+FitsRun m config (Deliver message) = Unit {0}
+FitsRun m config (Gossip from to) = (from < config.replicas) × (to < config.replicas) × (from ≢ to)
+FitsRun m config (Show replica) = replica < config.replicas
+
+-- if an event is a call, then of an operation of the service
+abbrev pub CallsOp : {Value Op : Type 0} → Meaning Value Op → Event Op → Type 0
+CallsOp m (Call client replica reading op) = m.is_op op ≡ true
+CallsOp m _ = Unit {0}
+
+-- an event of a run fits it, and calls an operation of the service, if it is a call
+abbrev pub IsEventOf : {Value Op : Type 0} → Meaning Value Op → Config → Event Op → Type 0
+IsEventOf m config event = FitsRun m config event × CallsOp m event

@@ -198,7 +198,7 @@ fn put_marks(marks: &[(u64, u64)], out: &mut Text) -> Result<(), NoMemory>
 
 // Adds the lists behind `out`.
 fn put_lists<S: Service>(state: &StableState<S>, out: &mut Text) -> Result<(), NoMemory>
-    requires { length state.now.entries ≤ 64 }
+    requires { length state.now.entries ≤ order_room }
     ensures ok { OnOk result (out.new
         ≡ out.old ++ (lists_format S.meaning 0 [] true).written (lists_of state.now)) }
     ensures real { OnOk result ((list_all (is_own_update S.meaning) state.now.updates
@@ -213,7 +213,7 @@ fn put_lists<S: Service>(state: &StableState<S>, out: &mut Text) -> Result<(), N
 
 /// Adds the bytes of a state behind `out`.
 pub(crate) fn put_state<S: Service>(state: &StableState<S>, out: &mut Text) -> Result<(), NoMemory>
-    requires { length state.now.entries ≤ 64 }
+    requires { length state.now.entries ≤ order_room }
     ensures ok { OnOk result (out.new
         ≡ out.old ++ (state_format S.meaning S.encoding S.NUMBER None).written state.now) }
     ensures real { OnOk result (is_own S.meaning S.encoding state.now ≡ true) }

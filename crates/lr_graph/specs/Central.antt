@@ -1,22 +1,28 @@
 -- What stamps stand for in a run: the sets of acceptances that they name.
-use Rattle.std.specs.Prelude.{◌≡◌, ◌<◌, ℕ, find, length, ◌&&◌, ◌==◌, max, if◌then◌else◌, List, [], ◌∷◌, Some}
+use Rattle.std.specs.Prelude.{◌≡◌, ◌<◌, ℕ, find, length, ◌&&◌, ◌==◌, max, if◌then◌else◌, List, [], ◌∷◌, Some, is_some}
 use Rattle.std.specs.List.{slice_get}
+use Rattle.std.specs.Option.{option_map}
+use Rattle.lr_base.specs.Calls.{AreByCall}
 use Rattle.lr_base.specs.Fronts.{FrontState}
 use Rattle.lr_base.specs.Meaning.{Meaning}
 use Rattle.lr_base.specs.Orders.{IsAmong}
 use Rattle.lr_base.specs.Replicas.{ReplicaState}
-use Rattle.lr_base.specs.Rules.{stamp_of}
+use Rattle.lr_base.specs.Rules.{stamp_of, known_of}
 use Rattle.lr_base.specs.Stamps.{part, stamp_le}
 use Rattle.lr_base.specs.declared.acts.Posted.{Posted}
 use Rattle.lr_base.specs.declared.messages.Call.{Call}
+use Rattle.lr_base.specs.declared.messages.Gossip.{Gossip as GossipRecord}
+use Rattle.lr_base.specs.declared.messages.Known.{Known}
 use Rattle.lr_base.specs.declared.messages.LogUpdate.{LogUpdate}
 use Rattle.lr_base.specs.declared.messages.Message.{Message}
 use Rattle.lr_base.specs.declared.messages.Message.TheVariants.{Update, Query, Done, Answer, Gossip}
+use Rattle.lr_base.specs.declared.names.Cid.{Cid}
 use Rattle.lr_base.specs.declared.names.Config.{Config}
 use Rattle.lr_base.specs.declared.events.Step.{Step}
 use Rattle.lr_graph.specs.After.{after}
 use Rattle.lr_graph.specs.Closed.{Each, IsSetOf, IsSound, causes}
-use Rattle.lr_graph.specs.Graph.{Acceptance, Carried, Facts, LabelledCall, SentMessage, is_within, ready}
+use Rattle.lr_graph.specs.Graph.{Acceptance, Carried, Facts, LabelledCall, SentMessage, has_call, kept_spot}
+use Rattle.lr_graph.specs.Graph.{is_within, ready}
 use Rattle.lr_graph.specs.Graph.{UpdateCopy, QueryCopy, DoneReply, AnswerReply, GossipOf}
 use Rattle.lr_graph.specs.Names.{IsCounted}
 use Rattle.lr_graph.specs.Runs.{RunState, message_at}
@@ -54,43 +60,83 @@ pub record StandsForSet {Value Op : Type 0} (config : Config) (w : Facts Op) (v 
       → (replica : ReplicaState Value Op) → slice_get v.replicas i ≡ Some replica
       → stamp_le stamp replica.causal.val_ts ≡ is_within w.accepted x (w.received i)
 
--- a logged update is that of an acceptance: its causes' stamp and its own stand for their sets
+-- a logged update is that of an acceptance, of its call and its operation: its causes' stamp and its own stand for
+-- their sets
 pub record IsUpdateIn {Value Op : Type 0} (config : Config) (w : Facts Op) (v : RunState Value Op)
     (u : LogUpdate Op) : Type 0 where
   pub of : Acceptance Op
   pub among : IsAmong of w.accepted
   pub spot : u.spot ≡ of.spot
+  pub cid : u.cid ≡ of.cid
+  pub op : u.op ≡ of.op
   pub prev : StandsForSet config w v u.prev (causes of)
   pub stamp : StandsForSet config w v (stamp_of u) of.below
 
--- the stamp of a message stands for the set that it carries;
--- that of gossip counts what its sender received, and the stamps of its log stand for sets
+-- a call of the run is this one of the facts, and its stamp stands for the label
+pub record IsCallIn {Value Op : Type 0} (config : Config) (w : Facts Op) (v : RunState Value Op)
+    (of : LabelledCall Op) (d : Call Op) : Type 0 where
+  pub cid : d.cid ≡ of.cid
+  pub op : d.op ≡ of.op
+  pub label : StandsForSet config w v d.prev of.label
+
+-- gossip counts what its sender received, and its log has updates of acceptances
+pub record IsGossipIn {Value Op : Type 0} (config : Config) (w : Facts Op) (v : RunState Value Op)
+    (names : SpotSet) (gossip : GossipRecord Op) : Type 0 where
+  pub counted : IsCounted names gossip.rep_ts
+  pub updates : Each (IsUpdateIn config w v) gossip.updates
+
+-- what a message of the run has is what this one of the facts carries: of the same call, with a stamp for its set
 abbrev pub CarriesStamp : {Value Op : Type 0} → Config → Facts Op → RunState Value Op → Carried Op → Message Op → Type 0
-CarriesStamp config w v (UpdateCopy c t) (Update d time) = StandsForSet config w v d.prev c.label
-CarriesStamp config w v (QueryCopy c) (Query d) = StandsForSet config w v d.prev c.label
-CarriesStamp config w v (DoneReply cid names) (Done other spot stamp) = StandsForSet config w v stamp names
-CarriesStamp config w v (AnswerReply cid names) (Answer other text stamp) = StandsForSet config w v stamp names
-CarriesStamp config w v (GossipOf names) (Gossip gossip) =
-    IsCounted names gossip.rep_ts × Each (IsUpdateIn config w v) gossip.updates
+CarriesStamp config w v (UpdateCopy c t) (Update d time) = IsCallIn config w v c d × (time ≡ t)
+CarriesStamp config w v (QueryCopy c) (Query d) = IsCallIn config w v c d
+CarriesStamp config w v (DoneReply cid names) (Done other spot stamp) =
+    (other ≡ cid) × StandsForSet config w v stamp names
+CarriesStamp config w v (AnswerReply cid names) (Answer other text stamp) =
+    (other ≡ cid) × StandsForSet config w v stamp names
+CarriesStamp config w v (GossipOf names) (Gossip gossip) = IsGossipIn config w v names gossip
 CarriesStamp config w v _ _ = ⊥
 
--- a held query has the label of one that the facts hold there
+-- a message of the run is this one of the facts: it goes from the one to the other, and has what it carries
+pub record IsMessageIn {Value Op : Type 0} (config : Config) (w : Facts Op) (v : RunState Value Op)
+    (x : SentMessage Op) (p : Posted Op) : Type 0 where
+  pub from : p.from ≡ x.from
+  pub to : p.to ≡ x.to
+  pub what : CarriesStamp config w v x.what p.message
+
+-- a held query is one that the facts hold there
 pub record IsHeldIn {Value Op : Type 0} (config : Config) (w : Facts Op) (v : RunState Value Op)
     (i : ℕ) (d : Call Op) : Type 0 where
   pub of : LabelledCall Op
   pub among : IsAmong of (w.held i)
-  pub label : StandsForSet config w v d.prev of.label
+  pub call : IsCallIn config w v of d
 
--- what a replica received of each place is a prefix of its numbers, and its stamps stand for sets
+-- what the table of executed calls has of a call is the spot of an acceptance of this call, and what is below it
+pub record IsKnownIn {Value Op : Type 0} (config : Config) (w : Facts Op) (v : RunState Value Op)
+    (cid : Cid) (known : Known) : Type 0 where
+  pub of : Acceptance Op
+  pub among : IsAmong of w.accepted
+  pub cid_is : of.cid ≡ cid
+  pub spot : known.spot ≡ of.spot
+  pub stamp : StandsForSet config w v known.stamp of.below
+
+-- what a replica received of each place is a prefix of its numbers, its stamps stand for sets, and its table has just
+-- the calls of what is ready, each once, at the spots that the facts keep of them
 pub record HasStamps {Value Op : Type 0} (config : Config) (w : Facts Op) (v : RunState Value Op)
     (i : ℕ) (replica : ReplicaState Value Op) : Type 0 where
   pub prefixes : IsCounted (w.received i) replica.causal.rep_ts
   pub value : StandsForSet config w v replica.causal.val_ts (ready w.accepted (w.received i))
   pub updates : Each (IsUpdateIn config w v) replica.causal.updates
   pub held : Each (IsHeldIn config w v i) replica.causal.held
+  pub by_call : AreByCall replica.causal.calls
+  pub executed : (cid : Cid) → is_some (known_of replica.causal.calls cid)
+      ≡ has_call w.accepted (ready w.accepted (w.received i)) cid
+  pub kept : (cid : Cid) → option_map (λ known. known.spot) (known_of replica.causal.calls cid)
+      ≡ kept_spot (w.kept i) cid
+  pub known : (cid : Cid) (known : Known) → known_of replica.causal.calls cid ≡ Some known
+      → IsKnownIn config w v cid known
 
--- causes exist and come first, the facts have as many messages as the run sent,
--- and each stamp that it has reached stands for a set: those of replicas, of labels and of messages
+-- causes exist and come first, the facts have as many messages as the run sent, each message is that of its number,
+-- and each stamp that the run has reached stands for a set: those of replicas, of labels and of messages
 pub record IsCentral {Value Op : Type 0} (config : Config) (w : Facts Op) (v : RunState Value Op) : Type 0 where
   pub sound : IsSound w.accepted
   pub replicas : (i : ℕ) → i < config.replicas
@@ -103,4 +149,4 @@ pub record IsCentral {Value Op : Type 0} (config : Config) (w : Facts Op) (v : R
   pub messages : (n : ℕ) (p : Posted Op) → message_at v.posted n ≡ Some p
       → (x : SentMessage Op)
       × (find (λ y. y.number == n) w.messages ≡ Some x)
-      × CarriesStamp config w v x.what p.message
+      × IsMessageIn config w v x p

@@ -2,7 +2,7 @@
 use Rattle.std.specs.Prelude.{◌≡◌, ◌^◌, ℕ, suc, ◌==◌, nat_lt, max, Bool, true, false, ◌&&◌, not, if◌then◌else◌}
 use Rattle.std.specs.Prelude.{List, [], ◌∷◌, ◌++◌, length, map, Option, Some, None}
 use Rattle.lr_base.specs.Ascending.{same_cid}
-use Rattle.lr_base.specs.Kinds.{is_query}
+use Rattle.lr_base.specs.Kinds.{has_rules, is_query}
 use Rattle.lr_base.specs.Meaning.{Meaning}
 use Rattle.lr_base.specs.declared.events.Event.{Event}
 use Rattle.lr_base.specs.declared.events.Event.TheVariants.{Call, Deliver, Gossip as GossipEvent, Show}
@@ -89,11 +89,16 @@ reply_line (Some call) cid = if same_cid call.cid cid then Got cid else Stale ci
 abbrev pub take_line : {Op : Type 0} → Facts Op → ℕ → SpotSet → Outcome
 take_line w i names = Take (size_of w.accepted (λ spot. names spot && not (w.received i spot)))
 
+-- a copy of an update comes to a replica: a causal one is taken, and one of another kind has no rule there
+abbrev pub copy_lines : {Op : Type 0} → Config → Facts Op → ℕ → LabelledCall Op → Bool → List Outcome
+copy_lines config w i call false = []
+copy_lines config w i call true =
+    update_lines config w i call.cid (taken_at config w i call.cid (kept_spot (w.kept i) call.cid))
+
 -- a message comes to an actor: what has no rule there changes nothing
 abbrev pub message_lines : {Value Op : Type 0} → Meaning Value Op → Config → Facts Op → Actor → Carried Op
     → List Outcome
-message_lines m config w (Replica i) (UpdateCopy call time) =
-    update_lines config w i call.cid (taken_at config w i call.cid (kept_spot (w.kept i) call.cid))
+message_lines m config w (Replica i) (UpdateCopy call time) = copy_lines config w i call (has_rules (m.kind call.op))
 message_lines m config w (Replica i) (QueryCopy call) =
     query_lines m w i call (is_within w.accepted call.label (w.received i)) (nat_lt (length (w.held i)) 1024)
 message_lines m config w (Replica i) (GossipOf names) = take_line w i names ∷ []
@@ -149,11 +154,27 @@ outcomes_of m config w event =
     let own = own_lines m config w event in
     own ++ answers_at m (lines_read m config (handling w event) (event_read w event) own) (stepping w event)
 
--- each step has just the outcomes that its event may have after the steps before it
+-- whether an event is one of the run: the client and the replicas that it names are there, gossip goes to another
+-- replica, and what is called is an operation of the service
+abbrev pub is_event_in : {Value Op : Type 0} → Meaning Value Op → Config → Event Op → Bool
+is_event_in m config (Call client replica reading op) =
+    nat_lt client config.clients && (nat_lt replica config.replicas && m.is_op op)
+is_event_in m config (Deliver message) = true
+is_event_in m config (GossipEvent from to) =
+    nat_lt from config.replicas && (nat_lt to config.replicas && not (from == to))
+is_event_in m config (Show replica) = nat_lt replica config.replicas
+
+-- a step is legal after these facts: its event is one of the run, and its outcomes are just those that this may have
+pub record IsLegalStep {Value Op : Type 0} (m : Meaning Value Op) (config : Config) (w : Facts Op)
+    (step : Step Op) : Type 0 where
+  pub event : is_event_in m config step.event ≡ true
+  pub outcomes : step.outcomes ≡ outcomes_of m config w step.event
+
+-- each step is legal after the steps before it
 abbrev pub LegalFrom : {Value Op : Type 0} → Meaning Value Op → Config → Facts Op → List (Step Op) → Type 0
 LegalFrom m config w [] = Unit {0}
 LegalFrom m config w (step ∷ steps) =
-    (step.outcomes ≡ outcomes_of m config w step.event) × LegalFrom m config (after m config w step) steps
+    IsLegalStep m config w step × LegalFrom m config (after m config w step) steps
 
 -- a legal history
 abbrev pub IsLegal : {Value Op : Type 0} → Meaning Value Op → Config → List (Step Op) → Type 0

@@ -3,7 +3,7 @@ ghost use Rattle.std.specs.Prelude.{◌≡◌, ◌++◌, ◌∷◌, ℕ, [], Lis
 ghost use Rattle.lr_base.specs.Events.{IsEventOf};
 ghost use Rattle.lr_base.specs.declared.events.Outcome.TheVariants.{Send};
 ghost use Rattle.lr_graph.specs.After.{Handling, line_read};
-ghost use Rattle.lr_graph.specs.Answers.{CallsOp, HasPrintableAnswer};
+ghost use Rattle.lr_graph.specs.Answers.{HasPrintableAnswer};
 ghost use Rattle.lr_graph.specs.Central.{IsCentral, facts_after};
 ghost use Rattle.lr_graph.specs.Closed.{Each, IsClosed, IsSound, IsWithin};
 ghost use Rattle.lr_graph.specs.Graph.{Acceptance, Facts, first_facts, ready, value};
@@ -80,17 +80,17 @@ pub fn ready_is_the_greatest_closed_set<S: Service>()
 /// What is ready in the order of making is such an order.
 pub fn every_order_gives_one_value<S: Service>()
     ensures value { (config : Config) (steps : List (Step S.Op))
-        → Each (λ step. IsEventOf S.meaning config step.event) steps → IsLegal S.meaning config steps
+        → IsLegal S.meaning config steps
         → (i : ℕ) (order : List (Acceptance S.Op)) → IsReadyOrder S.meaning config steps i order
         → value S.meaning order everything ≡ value_after S.meaning config steps i }
     ensures own { (config : Config) (steps : List (Step S.Op))
-        → Each (λ step. IsEventOf S.meaning config step.event) steps → IsLegal S.meaning config steps
+        → IsLegal S.meaning config steps
         → (i : ℕ) → IsReadyOrder S.meaning config steps i (ready_as_made S.meaning config steps i) }
 {}
 
-/// Each answer of a legal history whose calls are of the service's operations is printable, and so holds no line feed.
+/// Each answer of a legal history is printable, and so holds no line feed.
 pub fn answers_are_printable<S: Service>()
     ensures { (config : Config) (steps : List (Step S.Op))
-        → Each (λ step. CallsOp S.meaning step.event) steps → IsLegal S.meaning config steps
+        → IsLegal S.meaning config steps
         → Each (λ step. Each HasPrintableAnswer step.outcomes) steps }
 {}

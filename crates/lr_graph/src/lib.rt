@@ -21,6 +21,6 @@ pub use promises::{
 };
 pub use slow::{ready_of, value_of};
 pub use worked::{
-    a_client_is_told, a_reply_that_is_not_taken_is_not_legal, an_addition_is_read,
-    another_answer_is_not_legal,
+    a_client_is_told, a_forced_update_is_not_accepted, a_reply_that_is_not_taken_is_not_legal,
+    an_addition_is_read, another_answer_is_not_legal, what_is_not_there_makes_no_step,
 };

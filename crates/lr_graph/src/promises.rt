@@ -1,12 +1,10 @@
 //! What every legal history promises to its clients: each function does nothing, and its contract is the promise.
 ghost use Rattle.std.specs.Prelude.{◌≡◌, ◌<◌, ◌++◌, ◌∷◌, ℕ, [], true, List};
-ghost use Rattle.lr_base.specs.Events.{IsEventOf};
 ghost use Rattle.lr_base.specs.Orders.{IsAmong};
 ghost use Rattle.lr_base.specs.declared.events.Event.TheVariants.{Deliver};
 ghost use Rattle.lr_base.specs.declared.events.Outcome.TheVariants.{Send};
 ghost use Rattle.lr_base.specs.declared.events.Sent.TheVariants.{Answer, Done};
 ghost use Rattle.lr_base.specs.declared.names.Actor.TheVariants.{Client, Replica};
-ghost use Rattle.lr_graph.specs.Closed.{Each};
 ghost use Rattle.lr_graph.specs.Graph.{Acceptance, ready, value};
 ghost use Rattle.lr_graph.specs.Legal.{IsLegal};
 ghost use Rattle.lr_graph.specs.Orderings.{FollowsCauses, everything, ready_as_made};
@@ -23,7 +21,6 @@ use lr_base::{Cid, Config, Spot, Step};
 pub fn answers_are_read_after_what_is_ready<S: Service>()
     ensures ready { (config : Config) (before between later : List (Step S.Op)) (sending answer : Step S.Op)
         (number i client : ℕ) (cid : Cid) (text : List ℕ) (seen : SpotSet)
-        → Each (λ step. IsEventOf S.meaning config step.event) (before ++ sending ∷ between ++ answer ∷ later)
         → IsLegal S.meaning config (before ++ sending ∷ between ++ answer ∷ later)
         → IsAmong (Send number (Replica i) (Client client) (Answer cid text)) sending.outcomes
         → answer.event ≡ Deliver number
@@ -32,7 +29,6 @@ pub fn answers_are_read_after_what_is_ready<S: Service>()
         ((facts_of S.meaning config (before ++ sending ∷ [])).received i) }
     ensures text { (config : Config) (before between later : List (Step S.Op)) (sending answer : Step S.Op)
         (number i client : ℕ) (cid : Cid) (text : List ℕ) (seen : SpotSet)
-        → Each (λ step. IsEventOf S.meaning config step.event) (before ++ sending ∷ between ++ answer ∷ later)
         → IsLegal S.meaning config (before ++ sending ∷ between ++ answer ∷ later)
         → IsAmong (Send number (Replica i) (Client client) (Answer cid text)) sending.outcomes
         → answer.event ≡ Deliver number
@@ -44,7 +40,6 @@ pub fn answers_are_read_after_what_is_ready<S: Service>()
 pub fn replies_stand_for_acceptances<S: Service>()
     ensures { (config : Config) (before between later : List (Step S.Op)) (sending done : Step S.Op)
         (number i client : ℕ) (cid : Cid) (spot : Spot) (names : SpotSet)
-        → Each (λ step. IsEventOf S.meaning config step.event) (before ++ sending ∷ between ++ done ∷ later)
         → IsLegal S.meaning config (before ++ sending ∷ between ++ done ∷ later)
         → IsAmong (Send number (Replica i) (Client client) (Done cid spot)) sending.outcomes
         → done.event ≡ Deliver number
@@ -57,14 +52,12 @@ pub fn replies_stand_for_acceptances<S: Service>()
 pub fn clients_read_their_writes<S: Service>()
     ensures all { (config : Config) (before between later : List (Step S.Op)) (done answer : Step S.Op)
         (client : ℕ) (write read : Cid) (names seen : SpotSet)
-        → Each (λ step. IsEventOf S.meaning config step.event) (before ++ done ∷ between ++ answer ∷ later)
         → IsLegal S.meaning config (before ++ done ∷ between ++ answer ∷ later)
         → TakesDone S.meaning config before done client write names
         → TakesAnswer S.meaning config (before ++ done ∷ between) answer client read seen
         → names ⊆ seen }
     ensures done { (config : Config) (before between later : List (Step S.Op)) (done answer : Step S.Op)
         (client : ℕ) (write read : Cid) (names seen : SpotSet)
-        → Each (λ step. IsEventOf S.meaning config step.event) (before ++ done ∷ between ++ answer ∷ later)
         → IsLegal S.meaning config (before ++ done ∷ between ++ answer ∷ later)
         → TakesDone S.meaning config before done client write names
         → TakesAnswer S.meaning config (before ++ done ∷ between) answer client read seen
@@ -75,7 +68,6 @@ pub fn clients_read_their_writes<S: Service>()
 pub fn reads_are_monotonic<S: Service>()
     ensures { (config : Config) (before between later : List (Step S.Op)) (one other : Step S.Op)
         (client : ℕ) (first second : Cid) (seen seen_later : SpotSet)
-        → Each (λ step. IsEventOf S.meaning config step.event) (before ++ one ∷ between ++ other ∷ later)
         → IsLegal S.meaning config (before ++ one ∷ between ++ other ∷ later)
         → TakesAnswer S.meaning config before one client first seen
         → TakesAnswer S.meaning config (before ++ one ∷ between) other client second seen_later
@@ -87,14 +79,12 @@ pub fn reads_are_monotonic<S: Service>()
 pub fn writes_are_monotonic<S: Service>()
     ensures all { (config : Config) (before between later : List (Step S.Op)) (done call : Step S.Op)
         (client : ℕ) (first second : Cid) (names : SpotSet) (a : Acceptance S.Op)
-        → Each (λ step. IsEventOf S.meaning config step.event) (before ++ done ∷ between ++ call ∷ later)
         → IsLegal S.meaning config (before ++ done ∷ between ++ call ∷ later)
         → TakesDone S.meaning config before done client first names → CallsUpdate call client second
         → IsAmong a (facts_of S.meaning config (before ++ done ∷ between ++ call ∷ later)).accepted
         → a.cid ≡ second → names ⊆ a.below }
     ensures done { (config : Config) (before between later : List (Step S.Op)) (done call : Step S.Op)
         (client : ℕ) (first second : Cid) (names : SpotSet) (a : Acceptance S.Op)
-        → Each (λ step. IsEventOf S.meaning config step.event) (before ++ done ∷ between ++ call ∷ later)
         → IsLegal S.meaning config (before ++ done ∷ between ++ call ∷ later)
         → TakesDone S.meaning config before done client first names → CallsUpdate call client second
         → IsAmong a (facts_of S.meaning config (before ++ done ∷ between ++ call ∷ later)).accepted
@@ -106,7 +96,6 @@ pub fn writes_are_monotonic<S: Service>()
 pub fn writes_follow_reads<S: Service>()
     ensures { (config : Config) (before between later : List (Step S.Op)) (answer call : Step S.Op)
         (client : ℕ) (first second : Cid) (seen : SpotSet) (a : Acceptance S.Op)
-        → Each (λ step. IsEventOf S.meaning config step.event) (before ++ answer ∷ between ++ call ∷ later)
         → IsLegal S.meaning config (before ++ answer ∷ between ++ call ∷ later)
         → TakesAnswer S.meaning config before answer client first seen → CallsUpdate call client second
         → IsAmong a (facts_of S.meaning config (before ++ answer ∷ between ++ call ∷ later)).accepted
@@ -117,15 +106,15 @@ pub fn writes_follow_reads<S: Service>()
 /// is ready in an order in which each update follows its causes, the order of making.
 pub fn causes_come_first<S: Service>()
     ensures ready { (config : Config) (steps : List (Step S.Op))
-        → Each (λ step. IsEventOf S.meaning config step.event) steps → IsLegal S.meaning config steps
+        → IsLegal S.meaning config steps
         → (i : ℕ) (a : Acceptance S.Op) → IsAmong a (facts_of S.meaning config steps).accepted
         → ready (facts_of S.meaning config steps).accepted ((facts_of S.meaning config steps).received i) a.spot ≡ true
         → a.below ⊆ ready (facts_of S.meaning config steps).accepted ((facts_of S.meaning config steps).received i) }
     ensures order { (config : Config) (steps : List (Step S.Op))
-        → Each (λ step. IsEventOf S.meaning config step.event) steps → IsLegal S.meaning config steps
+        → IsLegal S.meaning config steps
         → (i : ℕ) → FollowsCauses (ready_as_made S.meaning config steps i) }
     ensures value { (config : Config) (steps : List (Step S.Op))
-        → Each (λ step. IsEventOf S.meaning config step.event) steps → IsLegal S.meaning config steps
+        → IsLegal S.meaning config steps
         → (i : ℕ)
         → value S.meaning (ready_as_made S.meaning config steps i) everything ≡ value_after S.meaning config steps i }
 {}
@@ -150,19 +139,16 @@ pub fn replicas_converge<S: Service>()
 /// each replica has received all, holds no query, and has the value of each other. One round is enough.
 pub fn one_round_of_gossip_is_enough<S: Service>()
     ensures received { (config : Config) (before round : List (Step S.Op))
-        → Each (λ step. IsEventOf S.meaning config step.event) (before ++ round)
         → IsLegal S.meaning config (before ++ round)
         → IsRound config round
         → (facts_of S.meaning config (before ++ round)).accepted ≡ (facts_of S.meaning config before).accepted
         → (i : ℕ) → i < config.replicas → HasReceivedAll (facts_of S.meaning config (before ++ round)) i }
     ensures held { (config : Config) (before round : List (Step S.Op))
-        → Each (λ step. IsEventOf S.meaning config step.event) (before ++ round)
         → IsLegal S.meaning config (before ++ round)
         → IsRound config round
         → (facts_of S.meaning config (before ++ round)).accepted ≡ (facts_of S.meaning config before).accepted
         → (i : ℕ) → i < config.replicas → (facts_of S.meaning config (before ++ round)).held i ≡ [] }
     ensures value { (config : Config) (before round : List (Step S.Op))
-        → Each (λ step. IsEventOf S.meaning config step.event) (before ++ round)
         → IsLegal S.meaning config (before ++ round)
         → IsRound config round
         → (facts_of S.meaning config (before ++ round)).accepted ≡ (facts_of S.meaning config before).accepted

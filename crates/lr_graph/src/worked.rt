@@ -2,11 +2,14 @@
 ghost use Rattle.std.specs.Prelude.{[], ◌∷◌, codes, take};
 ghost use Rattle.svc_tally.specs.Tally.{tally};
 ghost use Rattle.lr_base.specs.declared.events.Event.TheVariants.{Deliver};
-ghost use Rattle.lr_base.specs.declared.events.Outcome.TheVariants.{Got};
+ghost use Rattle.lr_base.specs.declared.events.Outcome.TheVariants.{Accept, Got, Send};
+ghost use Rattle.lr_base.specs.declared.events.Sent.TheVariants.{Done};
+ghost use Rattle.lr_base.specs.declared.names.Actor.TheVariants.{Client, Replica};
 ghost use Rattle.lr_graph.specs.Graph.{below_of, ready};
 ghost use Rattle.lr_graph.specs.Legal.{IsLegal};
 ghost use Rattle.lr_graph.specs.Promises.{TakesAnswer, TakesDone, facts_of};
-ghost use Rattle.lr_graph.specs.Worked.{add_and_read, first_call, first_spot, second_call, small};
+ghost use Rattle.lr_graph.specs.Worked.{add_and_read, called_by, first_call, first_spot};
+ghost use Rattle.lr_graph.specs.Worked.{forced_call, forced_sum, second_call, shown_at_first, small};
 
 /// A history of an addition, and of a read that sees it, is legal.
 pub fn an_addition_is_read()
@@ -33,4 +36,19 @@ pub fn a_client_is_told()
         (record { event = Deliver 4; outcomes = Got second_call ∷ [] }) 0 second_call
         (ready (facts_of tally small (take 5 (add_and_read (Got first_call ∷ []) (codes "3")))).accepted
         ((facts_of tally small (take 5 (add_and_read (Got first_call ∷ []) (codes "3")))).received 0)) }
+{}
+
+/// A client that isn't there calls nothing in a legal history, and a replica that isn't there is shown in none.
+pub fn what_is_not_there_makes_no_step()
+    ensures client { IsLegal tally small (called_by 0) }
+    ensures no_client { IsLegal tally small (called_by 1) → ⊥ }
+    ensures replica { IsLegal tally small (shown_at_first 0) }
+    ensures no_replica { IsLegal tally small (shown_at_first 7) → ⊥ }
+{}
+
+/// A forced update is called and sent, and not accepted as a causal one is.
+pub fn a_forced_update_is_not_accepted()
+    ensures sent { IsLegal forced_sum small (forced_call []) }
+    ensures accepted { IsLegal forced_sum small (forced_call
+        (Accept first_spot first_call ∷ Send 2 (Replica 0) (Client 0) (Done first_call first_spot) ∷ [])) → ⊥ }
 {}

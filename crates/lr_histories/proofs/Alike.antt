@@ -1,7 +1,7 @@
 -- Two meanings that answer alike, whatever was accepted, make the same histories legal.
 use Rattle.std.proofs.Common.{◌≡◌, ◌∙◌, ℕ, suc, Bool, true, false, ◌&&◌, not, List, [], ◌∷◌, ◌++◌, ap, refl, sym, subst}
-use Rattle.std.specs.Prelude.{Option, Some, None, if◌then◌else◌}
-use Rattle.lr_base.specs.Kinds.{is_query}
+use Rattle.std.specs.Prelude.{nat_lt, Option, Some, None, if◌then◌else◌}
+use Rattle.lr_base.specs.Kinds.{has_rules, is_query}
 use Rattle.lr_base.specs.Meaning.{Meaning}
 use Rattle.lr_base.specs.declared.events.Event.{Event}
 use Rattle.lr_base.specs.declared.events.Event.TheVariants.{Call, Deliver, Gossip, Show}
@@ -19,18 +19,23 @@ use Rattle.lr_graph.specs.Graph.{Acceptance, Carried, Facts, LabelledCall, SentM
 use Rattle.lr_graph.specs.Graph.{UpdateCopy, QueryCopy, DoneReply, AnswerReply, GossipOf, Blank}
 use Rattle.lr_graph.specs.Graph.{first_facts, has_call, is_within, ready, value}
 use Rattle.lr_graph.specs.Legal.{IsLegal, LegalFrom, answer_line, answers, answers_at, call_lines, delivery_lines}
-use Rattle.lr_graph.specs.Legal.{message_lines, next_number, outcomes_of, own_lines, query_lines}
+use Rattle.lr_graph.specs.Legal.{copy_lines, is_event_in, message_lines, next_number, outcomes_of, own_lines, query_lines}
 use Rattle.lr_graph.specs.Sets.{SpotSet}
 
--- operations have one kind, and every set of acceptances has one answer
+-- the operations are the same, with one kind each, and every set of acceptances has one answer
 pub record Alike {V W Op : Type 0} (m : Meaning V Op) (n : Meaning W Op) : Type 0 where
   pub kind : (op : Op) → m.kind op ≡ n.kind op
+  pub is_op : (op : Op) → m.is_op op ≡ n.is_op op
   pub read : (accepted : List (Acceptance Op)) (set : SpotSet) (op : Op)
       → m.read (value m accepted set) op ≡ n.read (value n accepted set) op
 
 -- the same the other way round
 pub turned : {V W Op : Type 0} {m : Meaning V Op} {n : Meaning W Op} → Alike m n → Alike n m
-turned h = record { kind = λ op. sym (h.kind op); read = λ accepted set op. sym (h.read accepted set op) }
+turned h = record {
+  kind = λ op. sym (h.kind op);
+  is_op = λ op. sym (h.is_op op);
+  read = λ accepted set op. sym (h.read accepted set op);
+}
 
 module _ {V W Op : Type 0} (m : Meaning V Op) (n : Meaning W Op) where
   -- values are related that are made by related steps
@@ -62,7 +67,8 @@ module _ {V W Op : Type 0} {m : Meaning V Op} {n : Meaning W Op} (h : Alike m n)
 
   same-message : (config : Config) (w : Facts Op) (to : Actor) (what : Carried Op)
       → message_lines m config w to what ≡ message_lines n config w to what
-  same-message config w (Replica i) (UpdateCopy call time) = refl
+  same-message config w (Replica i) (UpdateCopy call time) =
+      ap (λ kind. copy_lines config w i call (has_rules kind)) (h.kind call.op)
   same-message config w (Replica i) (QueryCopy call) = same-query w i call _ _
   same-message config w (Replica i) (DoneReply cid names) = refl
   same-message config w (Replica i) (AnswerReply cid names) = refl
@@ -154,12 +160,22 @@ module _ {V W Op : Type 0} {m : Meaning V Op} {n : Meaning W Op} (h : Alike m n)
       ∙ same-ended config (stepping w step.event)
       (lines_read n config (handling w step.event) (event_read w step.event) step.outcomes)
 
+  same-event : (config : Config) (event : Event Op) → is_event_in m config event ≡ is_event_in n config event
+  same-event config (Call client replica reading op) =
+      ap (λ is. nat_lt client config.clients && (nat_lt replica config.replicas && is)) (h.is_op op)
+  same-event config (Deliver message) = refl
+  same-event config (Gossip from to) = refl
+  same-event config (Show replica) = refl
+
   legal-from : (config : Config) (w : Facts Op) (steps : List (Step Op)) → LegalFrom m config w steps
       → LegalFrom n config w steps
   legal-from config w [] legal = tt
   legal-from config w (step ∷ steps) legal =
       (
-        legal.0 ∙ same-outcomes config w step.event,
+        record {
+          event = sym (same-event config step.event) ∙ legal.0.event;
+          outcomes = legal.0.outcomes ∙ same-outcomes config w step.event;
+        },
         subst (λ (u : Facts Op). LegalFrom n config u steps) (same-after config w step)
             (legal-from config (after m config w step) steps legal.1),
       )

@@ -53,13 +53,13 @@ module _ {V : Type 0} (table : Table V) (look : Look V) (name : Bytes) (h : Find
   found-remove q = get-remove nat_list_cmp_total table name q ∙ ap (cond (same q name) None) (h q)
 
 -- a meaning of which a history's outcomes say all
-abbrev told_by : {V Op : Type 0} → (Op → Kind) → V → (V → Op → V) → (V → Op → Bytes) → Meaning V Op
-told_by kind start apply read = record {
+abbrev told_by : {V Op : Type 0} → (Op → Kind) → (Op → Bool) → V → (V → Op → V) → (V → Op → Bytes) → Meaning V Op
+told_by kind is_op start apply read = record {
   start = start;
   kind = kind;
   apply = apply;
   read = read;
-  is_op = λ op. true;
+  is_op = is_op;
   text = λ op. [];
   op_of = λ text. None;
 }
@@ -77,7 +77,7 @@ tally_told look (Add name amount) = []
 tally_told look (Read name) = digits_of (count_at look name)
 
 abbrev pub computed_tally : Meaning (Look ℕ) TallyOp
-computed_tally = told_by tally_kind (λ q. None) tally_next tally_told
+computed_tally = told_by tally_kind tally.is_op (λ q. None) tally_next tally_told
 
 tally_steps : (v : Counts) (look : Look ℕ) (op : TallyOp) → Finds v look → Finds (tally_apply v op) (tally_next look op)
 tally_steps v look (Add name amount) h =
@@ -91,6 +91,7 @@ tally_tells v look (Read name) h = ap (λ o. decimal (unwrap_or o 0)) (h name) �
 pub tally_alike : Alike tally computed_tally
 tally_alike = record {
   kind = λ op. refl;
+  is_op = λ op. refl;
   read = λ accepted set op. tally_tells _ _ op
       (related tally computed_tally Finds (get-empty (slice_cmp nat_cmp)) tally_steps accepted set);
 }
@@ -151,7 +152,7 @@ mail_told w (Delete user) = []
 mail_told w (ReadBox user) = told_number (w.users user) ++ (codes " " ++ told_words (unwrap_or (w.boxes user) []))
 
 abbrev pub computed_mail : Meaning Mailed MailOp
-computed_mail = told_by mail_kind (record { last = 0; users = λ q. None; boxes = λ q. None }) mail_next mail_told
+computed_mail = told_by mail_kind mail.is_op (record { last = 0; users = λ q. None; boxes = λ q. None }) mail_next mail_told
 
 user_steps : (v : MailValue) (w : Mailed) (user : Bytes) (known : Option ℕ) → IsMailed v w
     → IsMailed (with_user v user known) (mailed_user w user known)
@@ -189,6 +190,7 @@ mail_tells v w (ReadBox user) h =
 pub mail_alike : Alike mail computed_mail
 mail_alike = record {
   kind = λ op. refl;
+  is_op = λ op. refl;
   read = λ accepted set op. mail_tells _ _ op
       (related mail computed_mail IsMailed (record {
         last = refl;
@@ -223,7 +225,7 @@ claims_told w (Who name) = unwrap_or (w.owners name) (codes "-")
     ++ (codes " " ++ told_words (unwrap_or (w.notes name) []))
 
 abbrev pub computed_claims : Meaning Noted ClaimsOp
-computed_claims = told_by claims_kind (record { owners = λ q. None; notes = λ q. None }) claims_next claims_told
+computed_claims = told_by claims_kind claims.is_op (record { owners = λ q. None; notes = λ q. None }) claims_next claims_told
 
 claim_steps : (table : Table Bytes) (look : Look Bytes) (name who : Bytes) (known : Bool) → Finds table look
     → Finds (cond known table (insert table name who)) (owned look name who known)
@@ -256,6 +258,7 @@ claims_tells v w (Who name) h =
 pub claims_alike : Alike claims computed_claims
 claims_alike = record {
   kind = λ op. refl;
+  is_op = λ op. refl;
   read = λ accepted set op. claims_tells _ _ op
       (related claims computed_claims IsNoted (record {
         owners = get-empty (slice_cmp nat_cmp);

@@ -22,7 +22,7 @@ use Rattle.lr_base.specs.declared.names.Config.{Config}
 use Rattle.lr_base.specs.declared.names.Spot.{Spot}
 use Rattle.lr_graph.specs.After.{after}
 use Rattle.lr_graph.specs.Graph.{Facts, first_facts}
-use Rattle.lr_graph.specs.Legal.{IsLegal, LegalFrom, outcomes_of}
+use Rattle.lr_graph.specs.Legal.{IsLegal, LegalFrom, is_event_in, outcomes_of}
 
 module _ {V Op : Type 0} (m : Meaning V Op) (config : Config) where
   -- an event with just the outcomes that it may have
@@ -34,14 +34,26 @@ module _ {V Op : Type 0} (m : Meaning V Op) (config : Config) where
   made_from w [] = []
   made_from w (event ∷ events) = made_of w event ∷ made_from (after m config w (made_of w event)) events
 
-  made-legal : (w : Facts Op) (events : List (Event Op)) → LegalFrom m config w (made_from w events)
-  made-legal w [] = tt
-  made-legal w (event ∷ events) = (refl, made-legal (after m config w (made_of w event)) events)
+  -- whether these are events of the run
+  abbrev all_in : List (Event Op) → Bool
+  all_in [] = true
+  all_in (event ∷ events) = is_event_in m config event && all_in events
 
-  -- what is made of its events is legal
-  pub found-legal : (steps : List (Step Op)) → steps ≡ made_from first_facts (map (λ step. step.event) steps)
-      → IsLegal m config steps
-  found-legal steps same = subst (LegalFrom m config first_facts) (sym same) (made-legal first_facts _)
+  made-legal : (w : Facts Op) (events : List (Event Op)) → all_in events ≡ true
+      → LegalFrom m config w (made_from w events)
+  made-legal w [] own = tt
+  made-legal w (event ∷ events) own =
+      let both = parts (is_event_in m config event) (all_in events) own in
+      (record { event = both.0; outcomes = refl }, made-legal (after m config w (made_of w event)) events both.1)
+    where
+      parts : (a b : Bool) → (a && b) ≡ true → (a ≡ true) × (b ≡ true)
+      parts true b e = (refl, e)
+      parts false b e = let none : false ≡ true = e in cc
+
+  -- what is made of its events, which are all of the run, is legal
+  pub found-legal : (steps : List (Step Op)) → all_in (map (λ step. step.event) steps) ≡ true
+      → steps ≡ made_from first_facts (map (λ step. step.event) steps) → IsLegal m config steps
+  found-legal steps own same = subst (LegalFrom m config first_facts) (sym same) (made-legal first_facts _ own)
 
 -- the numbers of a call, of a spot, of an actor, of what is sent, of a refusal, and of an outcome
 abbrev of_cid : Cid → List ℕ
@@ -93,7 +105,7 @@ module _ {V Op : Type 0} (m : Meaning V Op) (config : Config) where
   legal-passes w [] legal = refl
   legal-passes w (step ∷ steps) legal =
       let own : same_numbers step.outcomes (outcomes_of m config w step.event) ≡ true
-      = ap (same_numbers step.outcomes) (sym legal.0)
+      = ap (same_numbers step.outcomes) (sym legal.0.outcomes)
       ∙ (eq_by_cmp_equiv nat_list_cmp_total).refl (flat_map of_outcome step.outcomes) in
       ap (λ b. b && passes_from (after m config w step) steps) own ∙ legal-passes (after m config w step) steps legal.1
 

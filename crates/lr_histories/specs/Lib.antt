@@ -4,9 +4,7 @@ pub mod AQueryDeliveredFourTimes
 pub mod AQueryWaitsForGossip
 pub mod ASecondCallWhileOneIsOpen
 pub mod AWordSentAndRead
-pub mod AnUpdateAndAQuery
 pub mod AnUpdateBeforeItsCause
-pub mod AnUpdateComesBeforeItsCause
 pub mod AnUpdateDeliveredTwice
 pub mod AnUpdateDeliveredTwiceAndASecondOpenCall
 pub mod First

@@ -2,7 +2,7 @@
 use Rattle.std.specs.Prelude.{◌≡◌, ◌≢◌, ℕ, ◌<◌, ◌≤◌, ◌^◌, Bool, true, ◌&&◌, List, [], ◌∷◌, ◌++◌, length}
 use Rattle.std.specs.List.{All, flat_map}
 use Rattle.lr_base.specs.Config.{IsValid}
-use Rattle.lr_base.specs.Events.{IsEventOf}
+use Rattle.lr_base.specs.Events.{FitsRun}
 use Rattle.lr_base.specs.Kinds.{has_rules}
 use Rattle.lr_base.specs.Meaning.{Meaning}
 use Rattle.lr_base.specs.declared.events.Event.{Event}
@@ -44,9 +44,9 @@ EventFits m (Deliver message) = message < 2 ^ 64
 EventFits m (Gossip from to) = (from < 2 ^ 64) × (to < 2 ^ 64)
 EventFits m (Show replica) = replica < 2 ^ 64
 
--- an event of a run with this set-up, with numbers that fit and an operation of the service
+-- an event that fits a run with this set-up, with numbers that fit and an operation of the service
 abbrev pub Fits : {Value Op : Type 0} → Meaning Value Op → Config → Event Op → Type 0
-Fits m config event = IsEventOf m config event × EventFits m event
+Fits m config event = FitsRun m config event × EventFits m event
 
 -- the bytes begin with this header's line
 pub record HasHeader (header : Header) (bytes : List ℕ) : Type 0 where

@@ -8,6 +8,7 @@ use Rattle.std.specs.Io.KnownBytes.{Appends}
 use Rattle.std.proofs.KnownBytes.{Appends-nil, Appends-trans}
 use Rattle.lr_base.specs.Meaning.{Meaning}
 use Rattle.lr_base.specs.declared.events.Event.{Event}
+use Rattle.lr_base.specs.declared.events.Event.TheVariants.{Call, Deliver, Gossip, Show}
 use Rattle.lr_base.specs.declared.events.Step.{Step}
 use Rattle.lr_base.specs.declared.names.Config.{Config}
 use Rattle.lr_base.specs.Events.{IsEventOf}
@@ -107,6 +108,13 @@ module _ {Value Op : Type 0} (m : Meaning Value Op) (header : Header) where
       let next : take (place + 1) events ≡ take place events ++ event ∷ [] = take_more events place event within ∙ ap (λ (e : Event Op). take place events ++ e ∷ []) (sym is) in
       subst (λ (es : List (Event Op)). IsRun m header es after before now more) (sym next)
       (run-more goes_on (take place events) run after event before now rest more number own made here (text ∙ ap (λ (c : Config). rest ++ step_text m c number (made_step m run event)) setup) w)
+
+  -- an event that fits is one of the run's
+  pub event-of : (event : Event Op) → Fits m header.config event → IsEventOf m header.config event
+  event-of (Call client replica reading op) fits = (fits.0, fits.1.3)
+  event-of (Deliver message) fits = (fits.0, tt)
+  event-of (Gossip from to) fits = (fits.0, tt)
+  event-of (Show replica) fits = (fits.0, tt)
 
   -- the event at a place fits, as all do
   pub fits-at : (events : List (Event Op)) (place : ℕ) (event : Event Op) → All (Fits m header.config) events → place < length events → event ≡ get_or events place event → Fits m header.config event

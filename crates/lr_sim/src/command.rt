@@ -1,6 +1,6 @@
 //! The command `sim`: reads a script to its end, runs it, and writes its history.
 ghost use Rattle.std.specs.Prelude.{ℕ, List, [], ◌≡◌, ◌≤◌, ◌++◌, OnOk, OnErr};
-ghost use Rattle.lr_base.specs.Events.{IsEventOf};
+ghost use Rattle.lr_base.specs.Events.{FitsRun};
 ghost use Rattle.lr_graph.specs.Made.{made_step};
 ghost use Rattle.lr_graph.specs.Runs.{stepped};
 ghost use Rattle.lr_outside.specs.Faults.{Rose};
@@ -187,7 +187,7 @@ fn make_step<S: Service>(
     line: &[u8],
     text: &mut Text,
 ) -> Result<(), NoMemory>
-    requires fits { IsEventOf S.meaning (setup_of run.old) event.now }
+    requires fits { FitsRun S.meaning (setup_of run.old) event.now }
     requires line { line.now ≡ event_text S.meaning event.now }
     ensures setup { setup_of run.new ≡ setup_of run.old }
     ensures made { OnOk result (run_of run.new ≡ (stepped S.meaning (run_of run.old) event.now).run) }

@@ -37,7 +37,7 @@ impl<S: Service> Run<S> {
     ghost use Rattle.std.specs.Prelude.{◌≡◌, ◌<◌, ◌∷◌, List, [], length, slice_get, IfOk, OnOk, OnErr};
     ghost use Rattle.std.specs.Option.{ForSome};
     ghost use Rattle.lr_base.specs.Config.{IsValid};
-    ghost use Rattle.lr_base.specs.Events.{IsEventOf};
+    ghost use Rattle.lr_base.specs.Events.{FitsRun};
     ghost use Rattle.lr_graph.specs.Runs.{RunState, first_run, given, stepped, unchanged};
     ghost use Rattle.lr_base.specs.Replicas.{ReplicaState};
     ghost use Rattle.lr_world.specs.Pending.{CanTakeBack, HasBegun, HasSent, HaveBegun, IsActing, IsOrderOf, IsWithin};
@@ -86,7 +86,7 @@ impl<S: Service> Run<S> {
     /// Makes one event; `lines` has what is printed of it until the next one. Where there is no memory, nothing has
     /// happened.
     pub fn step(&mut self, event: &Event<S::Op>) -> Result<(), NoMemory>
-        requires { IsEventOf S.meaning (setup_of self.old) event.now }
+        requires { FitsRun S.meaning (setup_of self.old) event.now }
         ensures setup { setup_of self.new ≡ setup_of self.old }
         ensures made { let made = stepped S.meaning (run_of self.old) event.now in
             OnOk result (HasStepped made (run_of self.new) (lines_of self.new)) }
@@ -102,7 +102,7 @@ impl<S: Service> Run<S> {
     /// Makes one event up to what can't fail, or nothing at all. Then `finish` ends the step, or `undo` takes it back.
     #[inline(always)]
     pub(crate) fn begin(&mut self, event: &Event<S::Op>) -> Result<Pending<S>, NoMemory>
-        requires { IsEventOf S.meaning (setup_of self.old) event.now }
+        requires { FitsRun S.meaning (setup_of self.old) event.now }
         ensures setup { setup_of self.new ≡ setup_of self.old }
         ensures made { let made = stepped S.meaning (run_of self.old) event.now in
             IfOk result (HasBegun (setup_of self.old) made (run_of self.old) (run_of self.new) (lines_of self.new)) }

@@ -1,5 +1,6 @@
 //! A world: a run with its steps so far, which are a legal history.
 ghost use Rattle.std.specs.Prelude.{◌≡◌, ◌∷◌, [], ◌++◌, IfOk, OnOk, OnErr};
+ghost use Rattle.lr_base.specs.Events.{CallsOp};
 ghost use Rattle.lr_base.specs.Kinds.{has_rules as ruled};
 ghost use Rattle.lr_graph.specs.Made.{IsMade};
 ghost use Rattle.lr_world.specs.Worlds.{run_of, setup_of};
@@ -31,7 +32,7 @@ impl<S: Service> Model for World<S> {
 impl<S: Service> World<S> {
     ghost use Rattle.std.specs.Prelude.{◌≡◌, ◌↔◌, [], ◌∷◌, ◌++◌, length, IsTrue, IfOk, OnErr};
     ghost use Rattle.lr_base.specs.Config.{IsValid};
-    ghost use Rattle.lr_base.specs.Events.{IsEventOf};
+    ghost use Rattle.lr_base.specs.Events.{FitsRun};
     ghost use Rattle.lr_graph.specs.Central.{facts_after};
     ghost use Rattle.lr_graph.specs.Graph.{first_facts};
     ghost use Rattle.lr_graph.specs.Legal.{IsLegal};
@@ -76,7 +77,7 @@ impl<S: Service> World<S> {
     /// Whether an event names a client and replicas that there are, gossip goes to another replica, and runs have rules
     /// for the kind of operation that is called.
     pub fn fits(&self, event: &Event<S::Op>) -> bool
-        ensures { IsTrue result ↔ IsEventOf S.meaning self.now.config event.now }
+        ensures { IsTrue result ↔ FitsRun S.meaning self.now.config event.now }
     {
         let config = self.run.config();
         match event {
@@ -96,7 +97,7 @@ impl<S: Service> World<S> {
 
     /// Makes one event that fits, and answers what is printed of it. Where there is no memory, nothing has happened.
     pub fn step(&mut self, event: &Event<S::Op>) -> Result<Rows<Outcome>, NoMemory>
-        requires { IsEventOf S.meaning self.old.config event.now }
+        requires { FitsRun S.meaning self.old.config event.now }
         ensures ok { IfOk result (λ lines. let step : Step S.Op = record { event = event.now; outcomes = lines } in
             self.new ≡ record self.old { steps = self.old.steps ++ step ∷ [] }) }
         ensures legal { IsLegal S.meaning self.new.config self.new.steps }
@@ -104,6 +105,7 @@ impl<S: Service> World<S> {
     {
         a_made_history_goes_on::<S>();
         what_is_made_is_legal::<S>();
+        calls_own_op::<S>(event);
         let pending = self.run.begin(event)?;
         match note(&mut self.steps, event, self.run.lines()) {
             Ok(lines) => {
@@ -115,6 +117,26 @@ impl<S: Service> World<S> {
                 Err(NoMemory)
             }
         }
+    }
+}
+
+// What a program calls is an operation of the service. This function does nothing.
+fn calls_own_op<S: Service>(event: &Event<S::Op>)
+    ensures { CallsOp S.meaning event.now }
+{
+    match event {
+        Event::Call {
+            client: _client,
+            replica: _replica,
+            reading: _reading,
+            op,
+        } => S::own_op(op),
+        Event::Deliver { message: _message } => (),
+        Event::Gossip {
+            from: _from,
+            to: _to,
+        } => (),
+        Event::Show { replica: _replica } => (),
     }
 }
 

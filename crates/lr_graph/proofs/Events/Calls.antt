@@ -4,7 +4,7 @@ use Rattle.std.specs.List.{slice_get}
 use Rattle.std.specs.Option.{option_map}
 use Rattle.lr_base.specs.Ascending.{same_cid}
 use Rattle.lr_base.specs.Fronts.{FrontState, called, clock_read, front_on_call, message_of, next_cid}
-use Rattle.lr_base.specs.Kinds.{has_rules, is_query}
+use Rattle.lr_base.specs.Kinds.{is_query}
 use Rattle.lr_base.specs.Meaning.{Meaning}
 use Rattle.lr_base.specs.declared.acts.Act.TheVariants.{Send}
 use Rattle.lr_base.specs.declared.events.Outcome.{Outcome}
@@ -33,7 +33,7 @@ use Rattle.lr_graph.proofs.Lists.Tests.{same_cid-is, same_cid-self}
 use Rattle.lr_graph.proofs.Handled.{alone}
 
 module _ {Value Op : Type 0} (m : Meaning Value Op) (config : Config) where
-  module _ (w : Facts Op) (v : RunState Value Op) (same : IsSame m config w v) (client replica reading : ℕ) (op : Op) (here : client < config.clients) (other : replica < config.replicas) (plain : has_rules (m.kind op) ≡ true)
+  module _ (w : Facts Op) (v : RunState Value Op) (same : IsSame m config w v) (client replica reading : ℕ) (op : Op) (here : client < config.clients) (other : replica < config.replicas)
       (front : FrontState) (there : slice_get v.fronts client ≡ Some front) (is : SameFront w.accepted client (w.front client) front) where
     abbrev facts : FrontFacts Op
     facts = w.front client
@@ -158,7 +158,7 @@ module _ {Value Op : Type 0} (m : Meaning Value Op) (config : Config) where
             (sym q) (sym (p ∙ ap (λ b. cond b (Query by_rules) (Update by_rules (max front.clock reading))) q)) out
         by_query false q p =
             let out = sends (UpdateCopy call (max facts.clock reading)) (UpdateSent call.cid (max facts.clock reading)) (Update by_rules (max front.clock reading)) tt
-            (reads_copy (λ c. UpdateCopy c (max facts.clock reading))) (λ k. UpdateSent (cid_is k) (clock_is k)) (same_update call by_rules (max facts.clock reading) (max front.clock reading) same_call clock_is is_issued q plain) in
+            (reads_copy (λ c. UpdateCopy c (max facts.clock reading))) (λ k. UpdateSent (cid_is k) (clock_is k)) (same_update call by_rules (max facts.clock reading) (max front.clock reading) same_call clock_is is_issued q) in
             subst₂ (λ (b : Bool) (message : Message Op).
             (act_lines (length v.posted) (Client client) (Send (Replica replica) message ∷ []) ≡ SendLine (next_number w) (Client client) (Replica replica) (cond b (QuerySent call.cid) (UpdateSent call.cid (max facts.clock reading))) ∷ [])
             × IsSame m config (lines_read m config (alone (Some (Client client))) w1 (SendLine (next_number w) (Client client) (Replica replica) (cond b (QuerySent call.cid) (UpdateSent call.cid (max facts.clock reading))) ∷ [])) (record (with_front v client (called reading front)) { posted = v.posted ++ posting (Client client) (Replica replica) message ∷ [] }))

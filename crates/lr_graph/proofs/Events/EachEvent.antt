@@ -1,5 +1,5 @@
 -- Each event is the same in the graph and by the rules.
-use Rattle.std.proofs.Common.{◌≡◌, ◌==◌, ◌≢◌, ℕ, ◌<◌, ◌^◌, false, find, List, [], ◌∷◌, Option, Some, None, refl, sym, ap, ◌∙◌, subst, subst₂, arith, eqb-true}
+use Rattle.std.proofs.Common.{◌≡◌, ◌==◌, ◌≢◌, ℕ, ◌<◌, ◌^◌, false, find, List, [], ◌∷◌, Option, Some, None, refl, sym, ap, ◌∙◌, subst, subst₂, arith, eqb-true, true, true≢false, eq-eqb, nat_lt, Bool, ◌++◌, ltb-true}
 use Rattle.std.proofs.lemmas.List.{append-nil}
 use Rattle.std.specs.List.{slice_get}
 use Rattle.lr_base.specs.Events.{IsEventOf}
@@ -7,7 +7,7 @@ use Rattle.lr_base.specs.Fronts.{FrontState, front_on_message}
 use Rattle.lr_base.specs.Meaning.{Encoding, Lawful, Meaning}
 use Rattle.lr_base.specs.Replicas.{ReplicaState}
 use Rattle.lr_base.specs.Rules.{gossip_of}
-use Rattle.lr_base.specs.Steps.{gossiped, own_taken, taken}
+use Rattle.lr_base.specs.Steps.{gossiped, own_taken, taken, Ending, ended, idle}
 use Rattle.lr_base.specs.declared.acts.Act.TheVariants.{Send}
 use Rattle.lr_base.specs.declared.acts.Posted.{Posted}
 use Rattle.lr_base.specs.declared.events.Event.{Event}
@@ -21,19 +21,22 @@ use Rattle.lr_base.specs.declared.messages.Message.TheVariants.{Gossip as Gossip
 use Rattle.lr_base.specs.declared.names.Actor.{Actor}
 use Rattle.lr_base.specs.declared.names.Actor.TheVariants.{Client, Replica}
 use Rattle.lr_base.specs.declared.names.Config.{Config}
-use Rattle.lr_graph.specs.After.{after, lines_read, Handling}
-use Rattle.lr_graph.specs.Graph.{Carried, Facts, SentMessage}
-use Rattle.lr_graph.specs.Legal.{delivery_lines, logged, message_lines, next_number, outcomes_of}
+use Rattle.lr_graph.specs.After.{after, lines_read, Handling, step_ended}
+use Rattle.lr_graph.specs.Graph.{Carried, Facts, SentMessage, LabelledCall, UpdateCopy, QueryCopy, GossipOf, DoneReply, AnswerReply, Blank}
+use Rattle.lr_graph.specs.Legal.{delivery_lines, logged, message_lines, next_number, outcomes_of, copy_lines, is_event_in, answers_at}
 use Rattle.lr_graph.specs.Runs.{RunState, Stepped, client_called, delivered, front_ended, front_given, given, message_at, replica_ended, replica_given, replica_gossips, shown, stepped, unchanged}
 use Rattle.lr_graph.proofs.Replicas.GossipSteps.{own-sent}
 use Rattle.lr_graph.proofs.Replicas.OwnParts.{own-part}
 use Rattle.lr_graph.proofs.Related.Relation.{IsReplicaAt, IsSame, IsThere, IsWay, SameCarried, SameMessage, SameOption, calls_in}
 use Rattle.lr_graph.proofs.StateLines.Shown.{same-line}
-use Rattle.lr_graph.proofs.Replicas.Stepping.{IsStep, step-ends}
-use Rattle.lr_graph.proofs.Lists.Tests.{never}
+use Rattle.lr_graph.proofs.Replicas.Stepping.{IsStep, step-ends, IsOwnPart}
+use Rattle.lr_graph.proofs.Lists.Tests.{never, and-left, and-right, not-false}
 use Rattle.lr_graph.proofs.Events.Calls.{calls-same}
 use Rattle.lr_graph.proofs.Events.Replies.{front-given}
 use Rattle.lr_graph.proofs.Handled.{alone, came_in, receiving}
+use Rattle.lr_graph.proofs.Histories.Updates.{CameFine, Holds, IsPlain, found-fine}
+use Rattle.lr_base.specs.Kinds.{has_rules}
+use Rattle.lr_graph.proofs.Replicas.Own.{own-idle}
 
 -- the step is the same on both sides
 pub record IsSameStep {Value Op : Type 0} (m : Meaning Value Op) (config : Config) (w : Facts Op) (event : Event Op) (s : Stepped Value Op) : Type 0 where
@@ -61,16 +64,21 @@ module _ {Value Op : Type 0} (m : Meaning Value Op) {e : Encoding Value} (kind_o
         let tied = same.replicas i within in
         (tied.1.replica, (tied.1.there, tied.1.setting, tied.1.number, subst (λ state. IsReplicaAt m config w.accepted (w.received i) (logged config w i) (w.kept i) (w.held i) state) (sym tied.1.state_is) tied.2))
 
-    to_replica : (n number : ℕ) (from : Actor) (what : Carried Op) (i : ℕ) → i < config.replicas → IsWay from (Replica i) what → (message : Message Op) → SameCarried m config w.accepted w.received same.issued (calls_in w) what message
+    -- a replica's step, by its own part
+    by_part : (x : Handling Op) (own : List Outcome) (i : ℕ) → i < config.replicas → (r : (replica : ReplicaState Value Op) × AtReplica i replica) (end : Ending Value Op)
+        → IsOwnPart m config same.issued w v i x own end → Makes x i own (replica_ended v i r.0 (ended m config.replicas end.state end.acts))
+    by_part x own i within r end part = step-ends m kind_of lawful config same.issued w v i within r.0 r.1.0 r.1.1 r.1.2 x own end part
+
+    to_replica : (n number : ℕ) (from : Actor) (what : Carried Op) (i : ℕ) → i < config.replicas → IsWay from (Replica i) what → IsPlain m what → (message : Message Op) → SameCarried m config w.accepted w.received same.issued (calls_in w) what message
         → Delivers n (Some (record { number = number; from = from; to = Replica i; what = what })) (given m v (Replica i) from message)
-    to_replica n number from what i within way message carries = by_rules (at_replica i within)
+    to_replica n number from what i within way plain message carries = by_rules (at_replica i within)
       where
         by_rules : (replica : ReplicaState Value Op) × AtReplica i replica → Delivers n (Some (record { number = number; from = from; to = Replica i; what = what })) (replica_given m v i from message (slice_get v.replicas i))
         by_rules r =
             let replica = r.0 in
             let x : Option (SentMessage Op) = Some (record { number = number; from = from; to = Replica i; what = what }) in
-            let part = own-part m config same.issued w v same.shared i within replica.causal r.1.3 (λ j apart inside. same.replicas j inside) number from what message way carries in
-            let step = step-ends m kind_of lawful config same.issued w v i within replica r.1.0 r.1.1 r.1.2 (came_in x) (message_lines m config w (Replica i) what) (own_taken m config i replica.causal from message) part in
+            let part = own-part m config same.issued w v same.shared i within replica.causal r.1.3 (λ j apart inside. same.replicas j inside) number from what message way plain carries in
+            let step = by_part (came_in x) (message_lines m config w (Replica i) what) i within r (own_taken m config i replica.causal from message) part in
             subst (λ (o : Option (ReplicaState Value Op)). Delivers n x (replica_given m v i from message o)) (sym r.1.0)
             (subst (λ (c : Config). Delivers n x (replica_ended v i replica (taken m c replica.me replica.causal from message))) (sym r.1.1)
             (subst (λ (k : ℕ). Delivers n x (replica_ended v i replica (taken m config k replica.causal from message))) (sym r.1.2) step))
@@ -85,17 +93,60 @@ module _ {Value Op : Type 0} (m : Meaning Value Op) {e : Encoding Value} (kind_o
           same = subst (λ (lines : List Outcome). IsSame m config (lines_read m config (came_in (Some (record { number = number; from = from; to = Client client; what = what }))) w lines) (front_ended v client (front_on_message message front.0)).run) (sym (append-nil (message_lines m config w (Client client) what))) (gives.1 number from);
         })
 
-    to_actor : (n number : ℕ) (from : Actor) (what : Carried Op) (to : Actor) → IsThere config to → IsWay from to what → (message : Message Op) → SameCarried m config w.accepted w.received same.issued (calls_in w) what message
+    to_actor : (n number : ℕ) (from : Actor) (what : Carried Op) (to : Actor) → IsThere config to → IsWay from to what → IsPlain m what → (message : Message Op) → SameCarried m config w.accepted w.received same.issued (calls_in w) what message
         → Delivers n (Some (record { number = number; from = from; to = to; what = what })) (given m v to from message)
-    to_actor n number from what (Client client) there way message carries = to_client n number from what client there way message carries
-    to_actor n number from what (Replica i) there way message carries = to_replica n number from what i there way message carries
+    to_actor n number from what (Client client) there way plain message carries = to_client n number from what client there way message carries
+    to_actor n number from what (Replica i) there way plain message carries = to_replica n number from what i there way plain message carries
 
-    delivers : (n : ℕ) (x : Option (SentMessage Op)) (p : Option (Posted Op)) → SameOption (SameMessage m config w.accepted w.received same.issued (calls_in w)) x p → Delivers n x (delivered m v n p)
-    delivers n None None h = record { lines = refl; same = same }
-    delivers n None (Some p) h = absurd h
-    delivers n (Some x) None h = absurd h
-    delivers n (Some x) (Some p) h =
-        subst₂ (λ (to from : Actor). Delivers n (Some x) (given m v to from p.message)) h.to h.from (to_actor n x.number x.from x.what x.to h.there h.way p.message h.what)
+    delivers : (n : ℕ) (x : Option (SentMessage Op)) (p : Option (Posted Op)) → CameFine (λ op. has_rules (m.kind op) ≡ true) x → SameOption (SameMessage m config w.accepted w.received same.issued (calls_in w)) x p → Delivers n x (delivered m v n p)
+    delivers n None None plain h = record { lines = refl; same = same }
+    delivers n None (Some p) plain h = absurd h
+    delivers n (Some x) None plain h = absurd h
+    delivers n (Some x) (Some p) plain h =
+        subst₂ (λ (to from : Actor). Delivers n (Some x) (given m v to from p.message)) h.to h.from (to_actor n x.number x.from x.what x.to h.there h.way plain p.message h.what)
+
+    -- ---- what has no rule in a run
+
+    -- a run whose facts are those after these lines of a delivery
+    abbrev Follows : Option (SentMessage Op) → List Outcome → Type 0
+    Follows x own =
+        (u : RunState Value Op) × IsSame m config (step_ended m config (receiving x) (lines_read m config (came_in x) w (own ++ answers_at m (lines_read m config (came_in x) w own) (receiving x)))) u
+
+    -- a copy of an update without rules is passed over
+    passes : (n number : ℕ) (from : Actor) (c : LabelledCall Op) (t i : ℕ) → i < config.replicas → (rules : Bool) → has_rules (m.kind c.op) ≡ rules
+        → IsWay from (Replica i) (UpdateCopy c t) → (message : Message Op) → SameCarried m config w.accepted w.received same.issued (calls_in w) (UpdateCopy c t) message
+        → Follows (Some (record { number = number; from = from; to = Replica i; what = UpdateCopy c t })) (copy_lines config w i c (has_rules (m.kind c.op)))
+    passes n number from c t i within true rules way message carries =
+        let s = to_replica n number from (UpdateCopy c t) i within way rules message carries in
+        ((given m v (Replica i) from message).run, s.same)
+    passes n number from c t i within false rules way message carries =
+        let x : Option (SentMessage Op) = Some (record { number = number; from = from; to = Replica i; what = UpdateCopy c t }) in
+        let r = at_replica i within in
+        let part = own-idle m config same.issued w v same.shared i r.0.causal r.1.3 (λ j apart inside. same.replicas j inside) (came_in x) in
+        subst (λ b. Follows x (copy_lines config w i c b)) (sym rules)
+        (_, (by_part (came_in x) [] i within r (idle r.0.causal) part).same)
+
+    to_any : (n number : ℕ) (from : Actor) (to : Actor) (what : Carried Op) → IsThere config to → IsWay from to what → (message : Message Op) → SameCarried m config w.accepted w.received same.issued (calls_in w) what message
+        → Follows (Some (record { number = number; from = from; to = to; what = what })) (message_lines m config w to what)
+    to_any n number from (Client client) what there way message carries =
+        ((given m v (Client client) from message).run, (to_client n number from what client there way message carries).same)
+    to_any n number from (Replica i) (UpdateCopy c t) there way message carries = passes n number from c t i there (has_rules (m.kind c.op)) refl way message carries
+    to_any n number from (Replica i) (QueryCopy c) there way message carries =
+        ((given m v (Replica i) from message).run, (to_replica n number from (QueryCopy c) i there way tt message carries).same)
+    to_any n number from (Replica i) (GossipOf names) there way message carries =
+        ((given m v (Replica i) from message).run, (to_replica n number from (GossipOf names) i there way tt message carries).same)
+    to_any n number from (Replica i) (DoneReply cid names) there way message carries =
+        ((given m v (Replica i) from message).run, (to_replica n number from (DoneReply cid names) i there way tt message carries).same)
+    to_any n number from (Replica i) (AnswerReply cid names) there way message carries =
+        ((given m v (Replica i) from message).run, (to_replica n number from (AnswerReply cid names) i there way tt message carries).same)
+    to_any n number from (Replica i) Blank there way message carries =
+        ((given m v (Replica i) from message).run, (to_replica n number from Blank i there way tt message carries).same)
+
+    follows : (n : ℕ) (x : Option (SentMessage Op)) (p : Option (Posted Op)) → SameOption (SameMessage m config w.accepted w.received same.issued (calls_in w)) x p → Follows x (delivery_lines m config w n x)
+    follows n None None h = (v, same)
+    follows n None (Some p) h = absurd h
+    follows n (Some x) None h = absurd h
+    follows n (Some x) (Some p) h = to_any n x.number x.from x.to x.what h.there h.way p.message h.what
 
     -- ---- a replica sends gossip
 
@@ -116,22 +167,53 @@ module _ {Value Op : Type 0} (m : Meaning Value Op) {e : Encoding Value} (kind_o
 
   -- ---- any event
 
-  pub same-step : (w : Facts Op) (v : RunState Value Op) → IsSame m config w v → (event : Event Op) → IsEventOf m config event → IsSameStep m config w event (stepped m v event)
-  same-step w v same (CallEvent client replica reading op) fits =
-      let front = same.shared.fronts_are client fits.0 in
-      let out = calls-same m config w v same client replica reading op fits.0 fits.1 fits.2 front.0 front.1 front.2 (w.front client).open_call front.0.open_call refl front.2.open_call
-      ((w.front client).calls == 2 ^ 62) (front.0.calls == 2 ^ 62) (ap (λ n. n == 2 ^ 62) front.2.calls) in
-      subst (λ (o : Option FrontState). IsSameStep m config w (CallEvent client replica reading op) (client_called m v client (Replica replica) reading op o)) (sym front.1)
-      (record { lines = out.0; same = out.1 })
-  same-step w v same (Deliver n) fits =
-      let out = delivers w v same n (find (λ x. x.number == n) w.messages) (message_at v.posted n) (same.shared.messages n) in
-      record { lines = out.lines; same = out.same }
-  same-step w v same (GossipEvent i to) fits =
-      let out = gossips w v same i to fits.0 fits.1 fits.2 in
-      record { lines = out.lines; same = out.same }
-  same-step w v same (Show i) fits =
-      let tied = same.replicas i fits in
-      let ok = subst (λ state. IsReplicaAt m config w.accepted (w.received i) (logged config w i) (w.kept i) (w.held i) state) (sym tied.1.state_is) tied.2 in
-      let line = same-line m config w i same.shared.sound (same.shared.exist i) tied.1.replica tied.1.number ok in
-      subst (λ (o : Option (ReplicaState Value Op)). IsSameStep m config w (Show i) (unchanged v (shown o))) (sym tied.1.there)
-      (record { lines = λ k. State (sym line k) ∷ []; same = same })
+  module _ (w : Facts Op) (v : RunState Value Op) (same : IsSame m config w v) where
+    call-step : (client replica reading : ℕ) (op : Op) → client < config.clients → replica < config.replicas
+        → IsSameStep m config w (CallEvent client replica reading op) (stepped m v (CallEvent client replica reading op))
+    call-step client replica reading op here there =
+        let front = same.shared.fronts_are client here in
+        let out = calls-same m config w v same client replica reading op here there front.0 front.1 front.2 (w.front client).open_call front.0.open_call refl front.2.open_call
+        ((w.front client).calls == 2 ^ 62) (front.0.calls == 2 ^ 62) (ap (λ n. n == 2 ^ 62) front.2.calls) in
+        subst (λ (o : Option FrontState). IsSameStep m config w (CallEvent client replica reading op) (client_called m v client (Replica replica) reading op o)) (sym front.1)
+        (record { lines = out.0; same = out.1 })
+
+    gossip-step : (i to : ℕ) → i < config.replicas → to < config.replicas → i ≢ to → IsSameStep m config w (GossipEvent i to) (stepped m v (GossipEvent i to))
+    gossip-step i to here there apart = let out = gossips w v same i to here there apart in record { lines = out.lines; same = out.same }
+
+    show-step : (i : ℕ) → i < config.replicas → IsSameStep m config w (Show i) (stepped m v (Show i))
+    show-step i here =
+        let tied = same.replicas i here in
+        let ok = subst (λ state. IsReplicaAt m config w.accepted (w.received i) (logged config w i) (w.kept i) (w.held i) state) (sym tied.1.state_is) tied.2 in
+        let line = same-line m config w i same.shared.sound (same.shared.exist i) tied.1.replica tied.1.number ok in
+        subst (λ (o : Option (ReplicaState Value Op)). IsSameStep m config w (Show i) (unchanged v (shown o))) (sym tied.1.there)
+        (record { lines = λ k. State (sym line k) ∷ []; same = same })
+
+    -- an event of a run is the same on both sides, where all updates that were sent have rules
+    pub same-step : Holds (λ op. has_rules (m.kind op) ≡ true) w → (event : Event Op) → IsEventOf m config event → IsSameStep m config w event (stepped m v event)
+    same-step plain (CallEvent client replica reading op) fits = call-step client replica reading op fits.0.0 fits.0.1
+    same-step plain (Deliver n) fits =
+        let came = found-fine (λ op. has_rules (m.kind op) ≡ true) n w.messages plain.messages in
+        let out = delivers w v same n (find (λ x. x.number == n) w.messages) (message_at v.posted n) came (same.shared.messages n) in
+        record { lines = out.lines; same = out.same }
+    same-step plain (GossipEvent i to) fits = gossip-step i to fits.0.0 fits.0.1 fits.0.2
+    same-step plain (Show i) fits = show-step i fits.0
+
+    -- after an event of a legal history some run has the facts
+    pub legal-step : (event : Event Op) → is_event_in m config event ≡ true
+        → (u : RunState Value Op) × IsSame m config (after m config w (record { event = event; outcomes = outcomes_of m config w event })) u
+    legal-step (CallEvent client replica reading op) own =
+        let others = and-right (nat_lt client config.clients) _ own in (
+          _,
+          (call-step client replica reading op (ltb-true client config.clients (and-left (nat_lt client config.clients) _ own))
+              (ltb-true replica config.replicas (and-left (nat_lt replica config.replicas) _ others))).same,
+        )
+    legal-step (Deliver n) own = follows w v same n (find (λ x. x.number == n) w.messages) (message_at v.posted n) (same.shared.messages n)
+    legal-step (GossipEvent i to) own =
+        let others = and-right (nat_lt i config.replicas) _ own in
+        let apart = not-false (i == to) (and-right (nat_lt to config.replicas) _ others) in (
+          _,
+          (gossip-step i to (ltb-true i config.replicas (and-left (nat_lt i config.replicas) _ own))
+              (ltb-true to config.replicas (and-left (nat_lt to config.replicas) _ others))
+              (λ e. true≢false (sym (eq-eqb i to e) ∙ apart))).same,
+        )
+    legal-step (Show i) own = (_, (show-step i (ltb-true i config.replicas own)).same)

@@ -135,8 +135,8 @@ module _ {Value Op : Type 0} (m : Meaning Value Op) (config : Config) where
         reply (DoneReply cid names) names cid other stamp cids named set (λ number from. refl) (w.front client).open_call front.open_call is.open_call
     front-given from what message way (same_answer cid other names text stamp cids named set) =
         reply (AnswerReply cid names) names cid other stamp cids named set (λ number from. refl) (w.front client).open_call front.open_call is.open_call
-    front-given (Client f) what message way (same_update c d t time call times by update plain) = absurd way
-    front-given (Replica k) what message way (same_update c d t time call times by update plain) = absurd way
+    front-given (Client f) what message way (same_update c d t time call times by update) = absurd way
+    front-given (Replica k) what message way (same_update c d t time call times by update) = absurd way
     front-given (Client f) what message way (same_query c d call by) = absurd way
     front-given (Replica k) what message way (same_query c d call by) = absurd way
     front-given (Client f) what message way (same_gossip names g h) = absurd way

@@ -1,5 +1,5 @@
 -- What is made by the rules is a legal history.
-use Rattle.std.proofs.Common.{◌≡◌, ◌≢◌, ℕ, zero, suc, ◌+◌, ◌<◌, ◌⊎◌, inl, inr, nat_lt, List, [], ◌∷◌, ◌++◌, length, map, replicate, Option, Some, None, refl, sym, ap, ◌∙◌, subst, arith, true≢false, leb-true}
+use Rattle.std.proofs.Common.{◌≡◌, ◌≢◌, ℕ, zero, suc, ◌+◌, ◌<◌, ◌⊎◌, inl, inr, nat_lt, List, [], ◌∷◌, ◌++◌, length, map, replicate, Option, Some, None, refl, sym, ap, ◌∙◌, subst, arith, true≢false, leb-true, ◌==◌, true, not, eqb-true, lt-ltb}
 use Rattle.std.specs.List.{slice_get}
 use Rattle.std.proofs.lemmas.List.{length-append}
 use Rattle.lr_base.specs.Fronts.{new_front}
@@ -9,6 +9,7 @@ use Rattle.lr_base.specs.Replicas.{first_replica}
 use Rattle.lr_base.specs.Rules.{first_state}
 use Rattle.lr_base.specs.Stamps.{part}
 use Rattle.lr_base.specs.declared.events.Event.{Event}
+use Rattle.lr_base.specs.declared.events.Event.TheVariants.{Call, Deliver, Gossip as GossipEvent, Show}
 use Rattle.lr_base.specs.declared.events.Outcome.{Outcome}
 use Rattle.lr_base.specs.declared.events.Step.{Step}
 use Rattle.lr_base.specs.declared.lr_service.Kind.{Kind}
@@ -18,15 +19,17 @@ use Rattle.lr_graph.specs.After.{after}
 use Rattle.lr_graph.specs.Central.{facts_after}
 use Rattle.lr_graph.specs.Closed.{Each, IsSetOf}
 use Rattle.lr_graph.specs.Graph.{Facts, first_facts}
-use Rattle.lr_graph.specs.Legal.{IsLegal, LegalFrom, logged}
+use Rattle.lr_graph.specs.Legal.{IsLegal, LegalFrom, logged, IsLegalStep, is_event_in}
 use Rattle.lr_graph.specs.Names.{IsCounted, Names}
 use Rattle.lr_graph.specs.Made.{IsMade, IsMadeFrom, made_step}
 use Rattle.lr_graph.specs.Runs.{RunState, first_fronts, first_replicas, first_run, message_at, run_after, steps_from, stepped}
 use Rattle.lr_graph.specs.Sets.{nothing}
-use Rattle.lr_graph.proofs.Events.EachEvent.{same-step}
+use Rattle.lr_graph.proofs.Events.EachEvent.{same-step, legal-step}
 use Rattle.lr_graph.proofs.Lists.Places.{slice-before, slice-behind}
 use Rattle.lr_graph.proofs.Related.Relation.{IsReplicaAt, IsSame, SameMessage, SameOption}
-use Rattle.lr_graph.proofs.Lists.Tests.{and-left, and-right, equal-or-not, never}
+use Rattle.lr_graph.proofs.Lists.Tests.{and-left, and-right, equal-or-not, never, and-intro}
+use Rattle.lr_graph.proofs.Histories.Updates.{CallsFine, Holds, step-fine}
+use Rattle.lr_base.specs.Kinds.{has_rules}
 
 -- ---- before any event
 
@@ -142,23 +145,66 @@ module _ {Value Op : Type 0} (m : Meaning Value Op) (config : Config) where
 -- ---- the law
 
 module _ {Value Op : Type 0} (m : Meaning Value Op) {e : Encoding Value} (kind_of : Op → Kind) (lawful : Lawful m e kind_of) (config : Config) where
+  -- kinds that have rules in a run
+  abbrev HasRules : Op → Type 0
+  HasRules op = has_rules (m.kind op) ≡ true
+
+  -- an event of a run is one of its histories
+  event-in : (event : Event Op) → IsEventOf m config event → is_event_in m config event ≡ true
+  event-in (Call client replica reading op) fits =
+      and-intro _ _ (lt-ltb client config.clients fits.0.0) (and-intro _ _ (lt-ltb replica config.replicas fits.0.1) fits.1)
+  event-in (Deliver message) fits = refl
+  event-in (GossipEvent from to) fits =
+      and-intro _ _ (lt-ltb from config.replicas fits.0.0) (and-intro _ _ (lt-ltb to config.replicas fits.0.1)
+      (ap not (never (from == to) (λ e. fits.0.2 (eqb-true from to e)))))
+  event-in (Show replica) fits = lt-ltb replica config.replicas fits.0
+
+  -- an event of a run calls what has rules
+  calls-rules : (event : Event Op) → IsEventOf m config event → CallsFine m HasRules event
+  calls-rules (Call client replica reading op) fits = λ update. fits.0.2
+  calls-rules (Deliver message) fits = tt
+  calls-rules (GossipEvent from to) fits = tt
+  calls-rules (Show replica) fits = tt
+
   -- what is made from a run is legal after the facts that belong to it, and the facts and the run after it belong together
-  made-same : (steps : List (Step Op)) (w : Facts Op) (v run : RunState Value Op) → IsMadeFrom m config v steps run → IsSame m config w v → LegalFrom m config w steps × IsSame m config (facts_after m config w steps) run
-  made-same [] w v run made same = (tt, subst (IsSame m config w) made same)
-  made-same (step ∷ steps) w v run made same =
-      let one = same-step m kind_of lawful config w v same step.event made.0 in
+  made-same : (steps : List (Step Op)) (w : Facts Op) (v run : RunState Value Op) → IsMadeFrom m config v steps run → Holds HasRules w → IsSame m config w v → LegalFrom m config w steps × IsSame m config (facts_after m config w steps) run
+  made-same [] w v run made plain same = (tt, subst (IsSame m config w) made same)
+  made-same (step ∷ steps) w v run made plain same =
+      let one = same-step m kind_of lawful config w v same plain step.event made.0 in
       let lines = made.1 ∙ one.lines in
-      let rest = made-same steps (after m config w step) (stepped m v step.event).run run made.2
+      let next = step-fine m HasRules config w step (calls-rules step.event made.0) lines plain in
+      let rest = made-same steps (after m config w step) (stepped m v step.event).run run made.2 next
       (subst (λ (lines : List Outcome). IsSame m config (after m config w (record { event = step.event; outcomes = lines })) (stepped m v step.event).run) (sym lines) one.same) in
-      ((lines, rest.0), rest.1)
+      ((record { event = event-in step.event made.0; outcomes = lines }, rest.0), rest.1)
 
   -- what is made is legal
   pub made-legal : (steps : List (Step Op)) (run : RunState Value Op) → IsMade m config steps run → IsLegal m config steps
-  made-legal steps run made = (made-same steps first_facts (first_run m config) run made (first-same m config)).0
+  made-legal steps run made = (made-same steps first_facts (first_run m config) run made (record { accepted = tt; messages = tt }) (first-same m config)).0
 
   -- the run after what is made and the facts of its history belong together
   pub same-after : (steps : List (Step Op)) (run : RunState Value Op) → IsMade m config steps run → IsSame m config (facts_after m config first_facts steps) run
-  same-after steps run made = (made-same steps first_facts (first_run m config) run made (first-same m config)).1
+  same-after steps run made = (made-same steps first_facts (first_run m config) run made (record { accepted = tt; messages = tt }) (first-same m config)).1
+
+-- ---- legal histories
+
+module _ {Value Op : Type 0} (m : Meaning Value Op) {e : Encoding Value} (kind_of : Op → Kind) (lawful : Lawful m e kind_of) (config : Config) where
+  -- after a legal step some run has the facts
+  pub step-same : (w : Facts Op) (v : RunState Value Op) → IsSame m config w v → (step : Step Op) → IsLegalStep m config w step
+      → (u : RunState Value Op) × IsSame m config (after m config w step) u
+  step-same w v same step legal =
+      let one = legal-step m kind_of lawful config w v same step.event legal.event in
+      (one.0, subst (λ (lines : List Outcome). IsSame m config (after m config w (record { event = step.event; outcomes = lines })) one.0) (sym legal.outcomes) one.1)
+
+  steps-same : (steps : List (Step Op)) (w : Facts Op) (v : RunState Value Op) → IsSame m config w v → LegalFrom m config w steps
+      → (u : RunState Value Op) × IsSame m config (facts_after m config w steps) u
+  steps-same [] w v same legal = (v, same)
+  steps-same (step ∷ steps) w v same legal =
+      let one = step-same w v same step legal.0 in
+      steps-same steps (after m config w step) one.0 one.1 legal.1
+
+  -- and after a legal history
+  pub legal-same : (steps : List (Step Op)) → IsLegal m config steps → (u : RunState Value Op) × IsSame m config (facts_after m config first_facts steps) u
+  legal-same steps legal = steps-same steps first_facts (first_run m config) (first-same m config) legal
 
 -- ---- what is made
 
@@ -195,6 +241,6 @@ one-history m config (s ∷ one) [] w f g e = absurd (empty e)
 one-history {Value} {Op} m config (s ∷ one) (t ∷ other) w f g e =
     let events : s.event ≡ t.event = cc in
     let rest : map (λ (step : Step Op). step.event) one ≡ map (λ (step : Step Op). step.event) other = cc in
-    let outcomes : s.outcomes ≡ t.outcomes = f.0 ∙ ap (Rattle.lr_graph.specs.Legal.outcomes_of m config w) events ∙ sym g.0 in
+    let outcomes : s.outcomes ≡ t.outcomes = f.0.outcomes ∙ ap (Rattle.lr_graph.specs.Legal.outcomes_of m config w) events ∙ sym g.0.outcomes in
     let same : s ≡ t = λ i. record { event = events i; outcomes = outcomes i } in
     λ i. same i ∷ one-history m config one other (after m config w s) f.1 (subst (λ (step : Step Op). LegalFrom m config (after m config w step) other) (sym same) g.1) rest i

@@ -1,8 +1,7 @@
 -- Every order of a set's acceptances that agrees where kinds need one order gives the set's value, and the order of making is one.
-use Rattle.std.proofs.Common.{◌≡◌, ◌≢◌, ℕ, Bool, true, false, cond, not, ◌&&◌, ◌||◌, if◌then◌else◌, ◌⊎◌, inl, inr, List, [], ◌∷◌, ◌++◌, filter, map, refl, sym, ap, ◌∙◌, subst, true≢false}
+use Rattle.std.proofs.Common.{◌≡◌, ◌≢◌, ℕ, Bool, true, false, cond, not, ◌&&◌, ◌||◌, if◌then◌else◌, ◌⊎◌, inl, inr, List, [], ◌∷◌, ◌++◌, filter, refl, sym, ap, ◌∙◌, subst, true≢false}
 use Rattle.lr_base.specs.Ascending.{same_cid}
 use Rattle.lr_base.specs.Kinds.{IsUpdate, are_ordered, is_query}
-use Rattle.lr_base.specs.Events.{IsEventOf}
 use Rattle.lr_base.specs.Meaning.{Encoding, Lawful, Meaning}
 use Rattle.lr_base.specs.OrderLaws.{apply_all-behind, before-first, before-second, one-value, ordered-opposites}
 use Rattle.lr_base.specs.Orders.{AgreeWhereOrdered, AreUpdates, HasEachOnce, HasSameUpdates, IsAmong, Keyed, apply_all}
@@ -15,12 +14,11 @@ use Rattle.lr_graph.specs.Closed.{Each, HasApartSpots, HasOlderCauses, IsSound, 
 use Rattle.lr_graph.specs.Graph.{Acceptance, first_facts, has_call, ready, value}
 use Rattle.lr_graph.specs.Legal.{IsLegal}
 use Rattle.lr_graph.specs.Orderings.{FollowsCauses, IsOrderOf, everything}
-use Rattle.lr_graph.specs.Runs.{first_run, history_of, run_after}
 use Rattle.lr_graph.specs.Sets.{SpotSet, same_spot}
-use Rattle.lr_graph.proofs.Histories.Law.{history-events, made-legal, one-history, same-after, steps-made}
+use Rattle.lr_graph.proofs.Histories.Law.{legal-same}
 use Rattle.lr_graph.proofs.Lists.Members.{among-filter, among-left, among-right, each-at, each-from, each-map, filter-each}
 use Rattle.lr_graph.proofs.Sets.ReadySets.{below-parts, causes-accepted, self-below}
-use Rattle.lr_graph.proofs.Related.Relation.{IsSame, calls_in}
+use Rattle.lr_graph.proofs.Related.Relation.{calls_in}
 use Rattle.lr_graph.proofs.Replicas.Stepping.{all-free, one-call}
 use Rattle.lr_graph.proofs.Lists.Tests.{and-intro, and-left, and-right, never, not-false, or-cases, or-false, same_cid-is, same_spot-is, same_spot-self}
 use Rattle.lr_graph.proofs.Related.Ties.{HasOneCall, IsFree}
@@ -217,36 +215,21 @@ module _ {Op : Type 0} where
 -- ---- legal histories
 
 module _ {Value Op : Type 0} (m : Meaning Value Op) {e : Encoding Value} (kind_of : Op → Kind) (lawful : Lawful m e kind_of) (config : Config) where
-  events_fit : (steps : List (Step Op)) → Each (λ step. IsEventOf m config step.event) steps → Each (IsEventOf m config) (map (λ step. step.event) steps)
-  events_fit [] fit = tt
-  events_fit (step ∷ steps) fit = (fit.0, events_fit steps fit.1)
-
-  -- the facts after a legal history are those of the run that its events make
-  pub legal-same : (steps : List (Step Op)) → Each (λ step. IsEventOf m config step.event) steps → IsLegal m config steps
-      → IsSame m config (facts_after m config first_facts steps) (run_after m (first_run m config) (map (λ step. step.event) steps))
-  legal-same steps fit legal =
-      let events = map (λ (step : Step Op). step.event) steps in
-      let first = first_run m config in
-      let made = steps-made m config events first (events_fit steps fit) in
-      let history = history_of m config events in
-      let one : history ≡ steps = one-history m config history steps first_facts (made-legal m kind_of lawful config history (run_after m first events) made) legal (history-events m first events) in
-      subst (λ (steps : List (Step Op)). IsSame m config (facts_after m config first_facts steps) (run_after m first events)) one (same-after m kind_of lawful config history (run_after m first events) made)
-
   -- every order of what is ready gives the replica's value
-  pub every-order : (steps : List (Step Op)) → Each (λ step. IsEventOf m config step.event) steps → IsLegal m config steps → (i : ℕ) (order : List (Acceptance Op))
+  pub every-order : (steps : List (Step Op)) → IsLegal m config steps → (i : ℕ) (order : List (Acceptance Op))
       → IsOrderOf (facts_after m config first_facts steps).accepted (ready (facts_after m config first_facts steps).accepted ((facts_after m config first_facts steps).received i)) order
       → value m order everything ≡ value m (facts_after m config first_facts steps).accepted (ready (facts_after m config first_facts steps).accepted ((facts_after m config first_facts steps).received i))
-  every-order steps fit legal i order is =
+  every-order steps legal i order is =
       let w = facts_after m config first_facts steps in
-      let same = legal-same steps fit legal in
+      let same = (legal-same m kind_of lawful config steps legal).1 in
       let set = ready w.accepted (w.received i) in
       let free = all-free m config same.issued (calls_in w) w.accepted same.shared.each in
       agreeing-value m kind_of lawful w.accepted set order (one-call m config same.issued (calls_in w) w.accepted same.shared.each) free.updates is (free-agree m w.accepted set order free is)
 
   -- what is ready in the order of making is one of these
-  pub ready-order : (steps : List (Step Op)) → Each (λ step. IsEventOf m config step.event) steps → IsLegal m config steps → (i : ℕ)
+  pub ready-order : (steps : List (Step Op)) → IsLegal m config steps → (i : ℕ)
       → IsOrderOf (facts_after m config first_facts steps).accepted (ready (facts_after m config first_facts steps).accepted ((facts_after m config first_facts steps).received i))
       (filter (λ a. ready (facts_after m config first_facts steps).accepted ((facts_after m config first_facts steps).received i) a.spot) (facts_after m config first_facts steps).accepted)
-  ready-order steps fit legal i =
+  ready-order steps legal i =
       let w = facts_after m config first_facts steps in
-      made-order w.accepted (ready w.accepted (w.received i)) (legal-same steps fit legal).shared.sound
+      made-order w.accepted (ready w.accepted (w.received i)) (legal-same m kind_of lawful config steps legal).1.shared.sound

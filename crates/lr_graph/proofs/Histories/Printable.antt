@@ -1,5 +1,5 @@
 -- In a legal history that calls operations of the service each answer is printable.
-use Rattle.std.proofs.Common.{◌≡◌, ◌^◌, ℕ, Bool, true, false, cond, ◌&&◌, ◌==◌, not, List, [], ◌∷◌, Option, Some, None, sym, subst}
+use Rattle.std.proofs.Common.{◌≡◌, ◌^◌, ℕ, Bool, true, false, cond, ◌&&◌, ◌==◌, not, List, [], ◌∷◌, Option, Some, None, sym, subst, nat_lt}
 use Rattle.lr_base.specs.Kinds.{is_query}
 use Rattle.lr_base.specs.Meaning.{Encoding, Lawful, Meaning, is_printable}
 use Rattle.lr_base.specs.declared.events.Event.{Event}
@@ -12,13 +12,14 @@ use Rattle.lr_base.specs.declared.lr_service.Kind.{Kind}
 use Rattle.lr_base.specs.declared.names.Actor.TheVariants.{Client, Replica}
 use Rattle.lr_base.specs.declared.names.Config.{Config}
 use Rattle.lr_graph.specs.After.{after, delivery_of, event_read, lines_read, next_call, stepping, handling}
-use Rattle.lr_graph.specs.Answers.{CallsOp, HasPrintableAnswer}
+use Rattle.lr_graph.specs.Answers.{HasPrintableAnswer}
 use Rattle.lr_graph.specs.Closed.{Each}
 use Rattle.lr_graph.specs.Graph.{Acceptance, Facts, LabelledCall, first_facts, has_call, ready, value}
-use Rattle.lr_graph.specs.Legal.{IsLegal, LegalFrom, answers_at, call_lines, next_number, outcomes_of, own_lines}
+use Rattle.lr_graph.specs.Legal.{IsLegal, LegalFrom, answers_at, call_lines, next_number, outcomes_of, own_lines, is_event_in}
 use Rattle.lr_graph.specs.Sets.{SpotSet}
 use Rattle.lr_graph.proofs.Lists.Members.{each-append, each-map}
 use Rattle.lr_graph.proofs.Histories.Updates.{AnswersFine, CallsFine, Holds, IsOther, answers_at-other, delivery-other, own-fine, step-fine}
+use Rattle.lr_graph.proofs.Lists.Tests.{and-right}
 
 -- a text that is printable
 abbrev IsPrinted : List ℕ → Type 0
@@ -48,11 +49,12 @@ module _ {Value Op : Type 0} (m : Meaning Value Op) where
   abbrev IsOp : Op → Type 0
   IsOp op = m.is_op op ≡ true
 
-  calls-ops : (event : Event Op) → CallsOp m event → CallsFine m IsOp event
-  calls-ops (Call client replica reading op) is = λ update. is
-  calls-ops (Deliver message) is = tt
-  calls-ops (GossipEvent from to) is = tt
-  calls-ops (Show replica) is = tt
+  calls-ops : (config : Config) (event : Event Op) → is_event_in m config event ≡ true → CallsFine m IsOp event
+  calls-ops config (Call client replica reading op) own =
+      λ update. and-right (nat_lt replica config.replicas) _ (and-right (nat_lt client config.clients) _ own)
+  calls-ops config (Deliver message) is = tt
+  calls-ops config (GossipEvent from to) is = tt
+  calls-ops config (Show replica) is = tt
 
   call-printable : (w : Facts Op) (client replica clock : ℕ) (op : Op) (o : Option (LabelledCall Op)) (worn : Bool) → Each HasPrintableAnswer (call_lines m w client replica clock op o worn)
   call-printable w client replica clock op (Some call) worn = (tt, tt)
@@ -83,20 +85,20 @@ module _ {Value Op : Type 0} (m : Meaning Value Op) {e : Encoding Value} (kind_o
   own-printable config w (GossipEvent from to) h = (tt, tt)
   own-printable config w (Show replica) h = (tt, tt)
 
-  event-printable : (config : Config) (w : Facts Op) (event : Event Op) → CallsOp m event → Holds (IsOp m) w → Each HasPrintableAnswer (outcomes_of m config w event)
+  event-printable : (config : Config) (w : Facts Op) (event : Event Op) → is_event_in m config event ≡ true → Holds (IsOp m) w → Each HasPrintableAnswer (outcomes_of m config w event)
   event-printable config w event is h =
       let own = own_lines m config w event in
       let mid = lines_read m config (handling w event) (event_read w event) own in
-      let fine = answers-fine mid (own-fine m (IsOp m) config w event (calls-ops m event is) h) in
+      let fine = answers-fine mid (own-fine m (IsOp m) config w event (calls-ops m config event is) h) in
       each-append HasPrintableAnswer own (answers_at m mid (stepping w event)) (own-printable config w event h)
       (others-printable _ (answers_at-other m IsPrinted mid fine (stepping w event)))
 
-  from-printable : (config : Config) (w : Facts Op) (steps : List (Step Op)) → Each (λ step. CallsOp m step.event) steps → LegalFrom m config w steps → Holds (IsOp m) w → Each (λ step. Each HasPrintableAnswer step.outcomes) steps
-  from-printable config w [] ops legal h = tt
-  from-printable config w (step ∷ steps) ops legal h = (
-    subst (λ (lines : List Outcome). Each HasPrintableAnswer lines) (sym legal.0) (event-printable config w step.event ops.0 h),
-    from-printable config (after m config w step) steps ops.1 legal.1 (step-fine m (IsOp m) config w step (calls-ops m step.event ops.0) legal.0 h),
+  from-printable : (config : Config) (w : Facts Op) (steps : List (Step Op)) → LegalFrom m config w steps → Holds (IsOp m) w → Each (λ step. Each HasPrintableAnswer step.outcomes) steps
+  from-printable config w [] legal h = tt
+  from-printable config w (step ∷ steps) legal h = (
+    subst (λ (lines : List Outcome). Each HasPrintableAnswer lines) (sym legal.0.outcomes) (event-printable config w step.event legal.0.event h),
+    from-printable config (after m config w step) steps legal.1 (step-fine m (IsOp m) config w step (calls-ops m config step.event legal.0.event) legal.0.outcomes h),
   )
 
-  pub answers-printable : (config : Config) (steps : List (Step Op)) → Each (λ step. CallsOp m step.event) steps → IsLegal m config steps → Each (λ step. Each HasPrintableAnswer step.outcomes) steps
-  answers-printable config steps ops legal = from-printable config first_facts steps ops legal (record { accepted = tt; messages = tt })
+  pub answers-printable : (config : Config) (steps : List (Step Op)) → IsLegal m config steps → Each (λ step. Each HasPrintableAnswer step.outcomes) steps
+  answers-printable config steps legal = from-printable config first_facts steps legal (record { accepted = tt; messages = tt })

@@ -2,7 +2,7 @@
 use Rattle.std.proofs.Common.{◌≡◌, ◌^◌, ℕ, suc, Bool, true, false, cond, ◌==◌, List, [], ◌∷◌, Option, Some, None, map, refl, sym, ap, ◌∙◌, subst, eq-eqb}
 use Rattle.std.specs.List.{find}
 use Rattle.lr_base.specs.Ascending.{same_cid}
-use Rattle.lr_base.specs.Kinds.{IsUpdate, is_query}
+use Rattle.lr_base.specs.Kinds.{IsUpdate, is_query, has_rules}
 use Rattle.lr_base.specs.Meaning.{Meaning}
 use Rattle.lr_base.specs.declared.events.Event.{Event}
 use Rattle.lr_base.specs.declared.events.Event.TheVariants.{Call, Deliver, Gossip as GossipEvent, Show}
@@ -21,7 +21,7 @@ use Rattle.lr_graph.specs.After.{accept_read, after, call_read, carried, copy_of
 use Rattle.lr_graph.specs.Central.{facts_after}
 use Rattle.lr_graph.specs.Closed.{Each}
 use Rattle.lr_graph.specs.Graph.{Acceptance, Carried, Facts, FrontFacts, LabelledCall, SentMessage, UpdateCopy, QueryCopy, DoneReply, AnswerReply, GossipOf, Blank, first_facts, is_within, ready, value}
-use Rattle.lr_graph.specs.Legal.{IsLegal, LegalFrom, accept_lines, answer_line, answers, answers_at, call_lines, delivery_lines, message_lines, outcomes_of, own_lines, query_lines, reply_line, update_lines}
+use Rattle.lr_graph.specs.Legal.{IsLegal, LegalFrom, accept_lines, answer_line, answers, answers_at, call_lines, delivery_lines, message_lines, outcomes_of, own_lines, query_lines, reply_line, update_lines, copy_lines}
 use Rattle.lr_graph.specs.Sets.{put_at}
 use Rattle.lr_graph.specs.Told.{acceptance_of, bare, told}
 use Rattle.lr_graph.specs.declared.facts.items.AcceptedUpdate.{AcceptedUpdate}
@@ -73,7 +73,7 @@ module _ {Op : Type 0} (P : Op → Type 0) where
     pub accepted : Each (λ a. P a.op) w.accepted
     pub messages : Each (λ x. IsFine x.what) w.messages
 
-  found-fine : (number : ℕ) (messages : List (SentMessage Op)) → Each (λ x. IsFine x.what) messages → CameFine (find (λ x. x.number == number) messages)
+  pub found-fine : (number : ℕ) (messages : List (SentMessage Op)) → Each (λ x. IsFine x.what) messages → CameFine (find (λ x. x.number == number) messages)
   found-fine number [] each = tt
   found-fine number (x ∷ messages) each = split (x.number == number) (found-fine number messages each.1)
     where
@@ -84,6 +84,10 @@ module _ {Op : Type 0} (P : Op → Type 0) where
   query-fine : (o : Option (LabelledCall Op)) → IsFine (copy_of o QueryCopy)
   query-fine None = tt
   query-fine (Some call) = tt
+
+-- the rules of what is carried are those of a kind that has some, if it is an update
+abbrev pub IsPlain : {Value Op : Type 0} → Meaning Value Op → Carried Op → Type 0
+IsPlain m what = IsFine (λ op. has_rules (m.kind op) ≡ true) what
 
 -- ---- lines
 
@@ -168,6 +172,10 @@ module _ {Value Op : Type 0} (m : Meaning Value Op) (A : List ℕ → Type 0) wh
   update-other config w i cid (Some spot) = (tt, (tt, tt))
   update-other config w i cid None = accept-other w i cid _ _
 
+  copy-other : (config : Config) (w : Facts Op) (i : ℕ) (call : LabelledCall Op) (rules : Bool) → Each (IsOther A) (copy_lines config w i call rules)
+  copy-other config w i call false = tt
+  copy-other config w i call true = update-other config w i call.cid _
+
   query-other : (w : Facts Op) → AnswersFine w → (i : ℕ) (call : LabelledCall Op) (covered room : Bool) → Each (IsOther A) (query_lines m w i call covered room)
   query-other w fine i call true room = (fine i call.op, tt)
   query-other w fine i call false true = (tt, tt)
@@ -182,7 +190,7 @@ module _ {Value Op : Type 0} (m : Meaning Value Op) (A : List ℕ → Type 0) wh
       split false = tt
 
   message-other : (config : Config) (w : Facts Op) → AnswersFine w → (to : Actor) (what : Carried Op) → Each (IsOther A) (message_lines m config w to what)
-  message-other config w fine (Replica i) (UpdateCopy call time) = update-other config w i call.cid _
+  message-other config w fine (Replica i) (UpdateCopy call time) = copy-other config w i call _
   message-other config w fine (Replica i) (QueryCopy call) = query-other w fine i call _ _
   message-other config w fine (Replica i) (DoneReply cid names) = tt
   message-other config w fine (Replica i) (AnswerReply cid names) = tt
@@ -270,7 +278,7 @@ module _ {Value Op : Type 0} (m : Meaning Value Op) (P : Op → Type 0) where
 
   legal-fine : (config : Config) (w : Facts Op) (steps : List (Step Op)) → Each (λ step. CallsFine step.event) steps → LegalFrom m config w steps → Holds P w → Holds P (facts_after m config w steps)
   legal-fine config w [] fine legal h = h
-  legal-fine config w (step ∷ steps) fine legal h = legal-fine config (after m config w step) steps fine.1 legal.1 (step-fine config w step fine.0 legal.0 h)
+  legal-fine config w (step ∷ steps) fine legal h = legal-fine config (after m config w step) steps fine.1 legal.1 (step-fine config w step fine.0 legal.0.outcomes h)
 
 -- ---- accepted updates
 

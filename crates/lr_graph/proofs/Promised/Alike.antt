@@ -1,6 +1,5 @@
 -- What is ready has its causes, and is the same where the same is received.
 use Rattle.std.proofs.Common.{◌≡◌, ℕ, true, List, sym, ap, ◌∙◌}
-use Rattle.lr_base.specs.Events.{IsEventOf}
 use Rattle.lr_base.specs.Meaning.{Encoding, Lawful, Meaning}
 use Rattle.lr_base.specs.Orders.{IsAmong}
 use Rattle.lr_base.specs.declared.events.Step.{Step}
@@ -11,21 +10,20 @@ use Rattle.lr_graph.specs.Graph.{Acceptance, Facts, ready}
 use Rattle.lr_graph.specs.Legal.{IsLegal}
 use Rattle.lr_graph.specs.Promises.{◌⊆◌, HaveReceivedAlike, facts_of}
 use Rattle.lr_graph.specs.Sets.{SpotSet}
-use Rattle.lr_graph.proofs.Histories.Orderings.{legal-same}
+use Rattle.lr_graph.proofs.Histories.Law.{legal-same}
 use Rattle.lr_graph.proofs.Lists.Members.{each-at, each-from, each-map}
 use Rattle.lr_graph.proofs.Lists.Tests.{same-test}
 use Rattle.lr_graph.proofs.Sets.ReadySets.{below-accepted, holds-ready, ready-closed, ready-holds}
 
 -- with each acceptance all that is below it is ready
 pub ready-causes : {Value Op : Type 0} (m : Meaning Value Op) {e : Encoding Value} (kind_of : Op → Kind) (lawful : Lawful m e kind_of)
-    (config : Config) (steps : List (Step Op)) → Each (λ step. IsEventOf m config step.event) steps
-    → IsLegal m config steps
+    (config : Config) (steps : List (Step Op)) → IsLegal m config steps
     → (i : ℕ) (a : Acceptance Op) → IsAmong a (facts_of m config steps).accepted
     → ready (facts_of m config steps).accepted ((facts_of m config steps).received i) a.spot ≡ true
     → a.below ⊆ ready (facts_of m config steps).accepted ((facts_of m config steps).received i)
-ready-causes m kind_of lawful config steps fits legal i a member here s below =
+ready-causes m kind_of lawful config steps legal i a member here s below =
     let w = facts_of m config steps in
-    let sound = (legal-same m kind_of lawful config steps fits legal).shared.sound in
+    let sound = (legal-same m kind_of lawful config steps legal).1.shared.sound in
     let b = below-accepted w.accepted sound a member s below in
     ap (ready w.accepted (w.received i)) (sym b.2)
     ∙ each-at _ b.0 w.accepted

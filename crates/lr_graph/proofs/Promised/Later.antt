@@ -18,11 +18,11 @@ use Rattle.lr_graph.specs.Central.{facts_after}
 use Rattle.lr_graph.specs.Graph.{Acceptance, Carried, DoneReply, Facts, LabelledCall, AnswerReply, first_facts}
 use Rattle.lr_graph.specs.Legal.{IsLegal, call_lines, next_number, outcomes_of}
 use Rattle.lr_graph.specs.Promises.{◌⊆◌, CallsUpdate, HasDoneUpdate, Takes, facts_of}
-use Rattle.lr_graph.specs.Runs.{RunState, stepped}
+use Rattle.lr_graph.specs.Runs.{RunState}
 use Rattle.lr_graph.specs.Sets.{SpotSet}
 use Rattle.lr_graph.proofs.Lists.Members.{each-at}
 use Rattle.lr_graph.proofs.Promised.Changes.{IsFine, IsOpenFine}
-use Rattle.lr_graph.proofs.Promised.Points.{Fits, IsPoint, any-point, each-parts, facts-parts, fresh, legal-parts}
+use Rattle.lr_graph.proofs.Promised.Points.{IsPoint, any-point, facts-parts, fresh, legal-parts}
 use Rattle.lr_graph.proofs.Promised.Sessions.{HasTaken, IsReply, IsTold, above, reply-taken, taken-told, told-later}
 use Rattle.lr_graph.proofs.Related.Relation.{calls_in}
 use Rattle.lr_graph.proofs.Sets.ReadySets.{self-below}
@@ -73,7 +73,7 @@ module _ {Value Op : Type 0} (m : Meaning Value Op) {e : Encoding Value} (kind_o
       → HasTaken m config (facts_of m config before) step client cid names takes.message
   takes-taken before later step legal client cid names reply is takes =
       let parts = legal-parts m config before (step ∷ later) first_facts legal in
-      reply-taken m config (facts_of m config before) step parts.1.0 client cid cid names takes.message
+      reply-taken m config (facts_of m config before) step parts.1.0.outcomes client cid cid names takes.message
       (subst (IsReply cid names) (sym takes.what) is) takes.comes takes.to takes.got
 
   -- a client was told this after so many calls
@@ -84,20 +84,19 @@ module _ {Value Op : Type 0} (m : Meaning Value Op) {e : Encoding Value} (kind_o
     told : IsTold client k names w
 
   -- behind a reply that a client took it was told what this stands for
-  told-at : (before between : List (Step Op)) (one : Step Op) → Fits m config (before ++ one ∷ between)
+  told-at : (before between : List (Step Op)) (one : Step Op)
       → IsLegal m config (before ++ one ∷ between) → (client : ℕ) (cid : Cid) (names : SpotSet) (reply : Carried Op)
       → IsReply cid names reply → Takes m config before one client cid reply
       → KnowsAt client names (facts_of m config (before ++ one ∷ between))
-  told-at before between one fits legal client cid names reply is takes =
-      let fit = each-parts _ before (one ∷ between) fits in
+  told-at before between one legal client cid names reply is takes =
       let parts = legal-parts m config before (one ∷ between) first_facts legal in
       let w = facts_of m config before in
-      let at = any-point m kind_of lawful config before fit.0 parts.0 in
+      let at = any-point m kind_of lawful config before parts.0 in
       let took = takes-taken before between one legal client cid names reply is takes in
-      let told = taken-told m kind_of lawful config w at.0 at.1 one fit.1.0 parts.1.0 client cid names takes.message
+      let told = taken-told m kind_of lawful config w at.0 at.1 one parts.1.0 client cid names takes.message
       (subst (IsReply cid names) (sym takes.what) is) took in
       let now = told-later m config client (calls_in (after m config w one) client) names kind_of lawful between (after m config w one)
-      (stepped m at.0 one.event).run told.0 told.1 fit.1.1 parts.1.1 in
+      told.0 told.1 told.2 parts.1.1 in
       let same : facts_of m config (before ++ one ∷ between) ≡ facts_after m config (after m config w one) between =
       facts-parts m config before (one ∷ between) first_facts in
       subst (KnowsAt client names) (sym same)
@@ -105,7 +104,6 @@ module _ {Value Op : Type 0} (m : Meaning Value Op) {e : Encoding Value} (kind_o
 
   -- a reply that a client took, and a later step, in a legal history
   module _ (before between later : List (Step Op)) (one other : Step Op)
-      (fits : Fits m config (before ++ one ∷ between ++ other ∷ later))
       (legal : IsLegal m config (before ++ one ∷ between ++ other ∷ later))
       (client : ℕ) (first second : Cid) (names : SpotSet) (reply : Carried Op) (is : IsReply first names reply)
       (took : Takes m config before one client first reply) where
@@ -115,14 +113,11 @@ module _ {Value Op : Type 0} (m : Meaning Value Op) {e : Encoding Value} (kind_o
     abbrev w : Facts Op
     w = facts_of m config start
 
-    first_fits : Fits m config start × Fits m config (other ∷ later)
-    first_fits = each-parts _ start (other ∷ later) fits
-
     first_legal : IsLegal m config start
     first_legal = (legal-parts m config start (other ∷ later) first_facts legal).0
 
     knows : KnowsAt client names w
-    knows = told-at before between one first_fits.0 first_legal client first names reply is took
+    knows = told-at before between one first_legal client first names reply is took
 
     -- a later answer was read after what the client was told
     pub told-answer : (seen : SpotSet) → Takes m config start other client second (AnswerReply second seen) → names ⊆ seen
@@ -144,9 +139,9 @@ module _ {Value Op : Type 0} (m : Meaning Value Op) {e : Encoding Value} (kind_o
     told-update calls a member of =
         let parts = legal-parts m config start (other ∷ later) first_facts legal in
         let last = told-later m config client knows.k names kind_of lawful (other ∷ later) w knows.run knows.point
-        knows.told first_fits.1 parts.1 in
+        knows.told parts.1 in
         let named = of ∙ call-named m w client calls.replica _ calls.op _ _ calls.number calls.time _ _ second
-        (subst (IsAmong _) (parts.1.0 ∙ ap (outcomes_of m config w) calls.event) calls.sent) in
+        (subst (IsAmong _) (parts.1.0.outcomes ∙ ap (outcomes_of m config w) calls.event) calls.sent) in
         let among = subst (λ (v : Facts Op). IsAmong a v.accepted)
         (facts-parts m config start (other ∷ later) first_facts) member in
         let past = ap (λ (cid : Cid). cid.seq) named in
@@ -158,9 +153,8 @@ module _ {Value Op : Type 0} (m : Meaning Value Op) {e : Encoding Value} (kind_o
         → HasDoneUpdate (facts_of m config before).accepted first names set
     done-there set is_done within =
         let u = facts_of m config before in
-        let fit = each-parts _ before (one ∷ between) first_fits.0 in
         let parts = legal-parts m config before (one ∷ between) first_facts first_legal in
-        let at = any-point m kind_of lawful config before fit.0 parts.0 in
+        let at = any-point m kind_of lawful config before parts.0 in
         let got = takes-taken before between one first_legal client first names reply is took in
         let a = subst (IsFine (fresh.of (calls_in u)) u.accepted) (took.what ∙ is_done)
         (each-at _ took.message u.messages at.1.keeps.messages got.among) in

@@ -1,21 +1,18 @@
 -- Points of legal histories, and what holds between an earlier and a later one.
-use Rattle.std.proofs.Common.{◌≡◌, ◌≤◌, List, [], ◌∷◌, ◌++◌, refl, sym, ap, ◌∙◌, subst, true≢false, arith}
-use Rattle.lr_base.specs.Events.{IsEventOf}
+use Rattle.std.proofs.Common.{◌≡◌, ◌≤◌, List, [], ◌∷◌, ◌++◌, refl, sym, ap, ◌∙◌, true≢false, arith}
 use Rattle.lr_base.specs.Meaning.{Encoding, Lawful, Meaning}
-use Rattle.lr_base.specs.declared.events.Outcome.{Outcome}
 use Rattle.lr_base.specs.declared.events.Step.{Step}
 use Rattle.lr_base.specs.declared.lr_service.Kind.{Kind}
 use Rattle.lr_base.specs.declared.names.Config.{Config}
 use Rattle.lr_graph.specs.After.{after, stepping}
 use Rattle.lr_graph.specs.Central.{facts_after}
-use Rattle.lr_graph.specs.Closed.{Each, IsAccepted, IsSetOf, IsSound}
+use Rattle.lr_graph.specs.Closed.{IsAccepted, IsSetOf, IsSound}
 use Rattle.lr_graph.specs.Graph.{Acceptance, Facts, first_facts}
-use Rattle.lr_graph.specs.Legal.{IsLegal, LegalFrom, outcomes_of}
+use Rattle.lr_graph.specs.Legal.{IsLegal, LegalFrom, IsLegalStep}
 use Rattle.lr_graph.specs.Promises.{facts_of}
-use Rattle.lr_graph.specs.Runs.{RunState, first_run, stepped}
+use Rattle.lr_graph.specs.Runs.{RunState, first_run}
 use Rattle.lr_graph.specs.Sets.{SpotSet, same_spot}
-use Rattle.lr_graph.proofs.Events.EachEvent.{same-step}
-use Rattle.lr_graph.proofs.Histories.Law.{first-same}
+use Rattle.lr_graph.proofs.Histories.Law.{first-same, step-same}
 use Rattle.lr_graph.proofs.Lists.Members.{each-at, each-map}
 use Rattle.lr_graph.proofs.Lists.Tests.{same_spot-self}
 use Rattle.lr_graph.proofs.Promised.Changes.{IsLater, IsNext, Keeps, Rule, later-more, later-self}
@@ -52,10 +49,6 @@ pub facts-parts : {Value Op : Type 0} (m : Meaning Value Op) (config : Config) (
 facts-parts m config [] more w = refl
 facts-parts m config (step ∷ steps) more w = facts-parts m config steps more (after m config w step)
 
-pub each-parts : {A : Type 0} (P : A → Type 0) (xs ys : List A) → Each P (xs ++ ys) → Each P xs × Each P ys
-each-parts P [] ys all = (tt, all)
-each-parts P (x ∷ xs) ys all = let rest = each-parts P xs ys all.1 in ((all.0, rest.0), rest.1)
-
 pub legal-parts : {Value Op : Type 0} (m : Meaning Value Op) (config : Config) (steps more : List (Step Op))
     (w : Facts Op) → LegalFrom m config w (steps ++ more)
     → LegalFrom m config w steps × LegalFrom m config (facts_after m config w steps) more
@@ -81,10 +74,6 @@ pub record IsPoint {Value Op : Type 0} (m : Meaning Value Op) (config : Config) 
   pub same : IsSame m config w v
   pub keeps : Keeps fresh w
 
--- the events of these steps are events of the run
-abbrev pub Fits : {Value Op : Type 0} → Meaning Value Op → Config → List (Step Op) → Type 0
-Fits m config steps = Each (λ step. IsEventOf m config step.event) steps
-
 module _ {Value Op : Type 0} (m : Meaning Value Op) {e : Encoding Value} (kind_of : Op → Kind) (lawful : Lawful m e kind_of)
     (config : Config) where
   abbrev Point : Facts Op → RunState Value Op → Type 0
@@ -96,30 +85,28 @@ module _ {Value Op : Type 0} (m : Meaning Value Op) {e : Encoding Value} (kind_o
     keeps = record { accepted = tt; messages = tt; held = λ i. tt; opened = λ client. tt; numbered = tt };
   }
 
-  pub step-point : (w : Facts Op) (v : RunState Value Op) → Point w v → (step : Step Op)
-      → IsEventOf m config step.event → step.outcomes ≡ outcomes_of m config w step.event
-      → Point (after m config w step) (stepped m v step.event).run × IsNext fresh (stepping w step.event) w (after m config w step)
-  step-point w v p step fits legal =
-      let run = (stepped m v step.event).run in
-      let ended = λ (lines : List Outcome). after m config w (record { event = step.event; outcomes = lines }) in
-      let same = subst (λ lines. IsSame m config (ended lines) run) (sym legal)
-      (same-step m kind_of lawful config w v p.same step.event fits).same in
+  pub step-point : (w : Facts Op) (v : RunState Value Op) → Point w v → (step : Step Op) → IsLegalStep m config w step
+      → (u : RunState Value Op) × Point (after m config w step) u
+      × IsNext fresh (stepping w step.event) w (after m config w step)
+  step-point w v p step legal =
+      let same = step-same m kind_of lawful config w v p.same step legal in
       let next = step-next m config fresh w v p.keeps p.same (λ n cid x r f e. f)
-      (λ n client cid own seq e. (let i = ap n own in omega arith, own)) step legal (λ n cid x r f e. f) in
-      (record { same = same; keeps = next.keeps }, next)
+      (λ n client cid own seq e. (let i = ap n own in omega arith, own)) step legal.outcomes (λ n cid x r f e. f) in
+      (same.0, record { same = same.1; keeps = next.keeps }, next)
 
   -- a later point of a legal history
-  pub later-point : (steps : List (Step Op)) (w : Facts Op) (v : RunState Value Op) → Point w v → Fits m config steps
+  pub later-point : (steps : List (Step Op)) (w : Facts Op) (v : RunState Value Op) → Point w v
       → LegalFrom m config w steps
       → (u : RunState Value Op) × Point (facts_after m config w steps) u × IsLater w (facts_after m config w steps)
-  later-point [] w v p fits legal = (v, p, later-self w)
-  later-point (step ∷ steps) w v p fits legal =
-      let one = step-point w v p step fits.0 legal.0 in
-      let rest = later-point steps (after m config w step) (stepped m v step.event).run one.0 fits.1 legal.1 in
-      (rest.0, rest.1, later-more w (after m config w step) (facts_after m config (after m config w step) steps) one.1.later rest.2)
+  later-point [] w v p legal = (v, p, later-self w)
+  later-point (step ∷ steps) w v p legal =
+      let next = after m config w step in
+      let one = step-point w v p step legal.0 in
+      let rest = later-point steps next one.0 one.1 legal.1 in
+      (rest.0, rest.1, later-more w next (facts_after m config next steps) one.2.later rest.2)
 
-  pub any-point : (steps : List (Step Op)) → Fits m config steps → IsLegal m config steps
+  pub any-point : (steps : List (Step Op)) → IsLegal m config steps
       → (u : RunState Value Op) × Point (facts_of m config steps) u
-  any-point steps fits legal =
-      let p = later-point steps first_facts (first_run m config) first-point fits legal in
+  any-point steps legal =
+      let p = later-point steps first_facts (first_run m config) first-point legal in
       (p.0, p.1)

@@ -4,7 +4,6 @@ use Rattle.std.proofs.Common.{inl, inr, List, [], ◌∷◌, ◌++◌, Option, S
 use Rattle.std.proofs.Common.{true≢false}
 use Rattle.std.proofs.lemmas.List.Folds.{list_all-append}
 use Rattle.std.specs.List.{list_all}
-use Rattle.lr_base.specs.Events.{IsEventOf}
 use Rattle.lr_base.specs.Meaning.{Encoding, Lawful, Meaning}
 use Rattle.lr_base.specs.Orders.{IsAmong}
 use Rattle.lr_base.specs.declared.events.Event.{Event}
@@ -20,14 +19,14 @@ use Rattle.lr_graph.specs.After.{after, lines_read, stepping}
 use Rattle.lr_graph.specs.Central.{facts_after}
 use Rattle.lr_graph.specs.Closed.{Each}
 use Rattle.lr_graph.specs.Graph.{Acceptance, Facts, GossipOf, LabelledCall, SentMessage, first_facts, is_within}
-use Rattle.lr_graph.specs.Legal.{IsLegal, LegalFrom, answer_line, answers, delivery_lines, next_number, outcomes_of}
+use Rattle.lr_graph.specs.Legal.{IsLegal, LegalFrom, answer_line, answers, delivery_lines, next_number, outcomes_of, IsLegalStep}
 use Rattle.lr_graph.specs.Promises.{◌⊆◌, HasGossiped, HasReceivedAll, IsRound, facts_of}
-use Rattle.lr_graph.specs.Runs.{RunState, first_run, stepped}
+use Rattle.lr_graph.specs.Runs.{RunState, first_run}
 use Rattle.lr_graph.specs.Sets.{SpotSet, ◌∪◌}
 use Rattle.lr_graph.proofs.Lists.Members.{among-right, each-at, each-from, each-map, filter-each}
 use Rattle.lr_graph.proofs.Lists.Tests.{equal-or-not, not-false, or-right}
 use Rattle.lr_graph.proofs.Promised.Changes.{Extends, IsNumbered, extends-more, found-among}
-use Rattle.lr_graph.proofs.Promised.Points.{Fits, IsPoint, any-point, each-parts, facts-parts, first-point, later-point}
+use Rattle.lr_graph.proofs.Promised.Points.{IsPoint, any-point, facts-parts, first-point, later-point}
 use Rattle.lr_graph.proofs.Promised.Points.{legal-parts, step-point}
 use Rattle.lr_graph.proofs.Promised.Walk.{after-ended, own_read}
 use Rattle.lr_graph.proofs.Replicas.Stepping.{put-same}
@@ -136,13 +135,12 @@ module _ {Value Op : Type 0} (m : Meaning Value Op) (config : Config) where
 module _ {Value Op : Type 0} (m : Meaning Value Op) {e : Encoding Value} (kind_of : Op → Kind) (lawful : Lawful m e kind_of)
     (config : Config) where
   waits-step : (w : Facts Op) (v : RunState Value Op) → IsPoint m config w v → (step : Step Op)
-      → IsEventOf m config step.event → step.outcomes ≡ outcomes_of m config w step.event
-      → ((i : ℕ) → Waits w i) → (i : ℕ) → Waits (after m config w step) i
-  waits-step w v p step fits legal waits j = by_actor (stepping w step.event) refl
+      → IsLegalStep m config w step → ((i : ℕ) → Waits w i) → (i : ℕ) → Waits (after m config w step) i
+  waits-step w v p step legal waits j = by_actor (stepping w step.event) refl
     where
       elsewhere : (stepping w step.event ≡ Some j → ⊥) → Waits (after m config w step) j
       elsewhere apart =
-          let next = (step-point m kind_of lawful config w v p step fits legal).1 in
+          let next = (step-point m kind_of lawful config w v p step legal).2 in
           let stays = λ (c : LabelledCall Op) (e : is_within w.accepted c.label (w.received j) ≡ false).
           waits-more w.accepted (after m config w step).accepted next.later.accepted c.label _
           (ap (is_within w.accepted c.label) (next.others j apart).0 ∙ e) in
@@ -160,70 +158,66 @@ module _ {Value Op : Type 0} (m : Meaning Value Op) {e : Encoding Value} (kind_o
       by_actor (Some i) at = by_place (equal-or-not j i)
         where
           by_place : (j ≡ i) ⊎ (j ≢ i) → Waits (after m config w step) j
-          by_place (inl is) = subst (Waits (after m config w step)) (sym is) (waits-ended m config w step legal i at)
+          by_place (inl is) = subst (Waits (after m config w step)) (sym is) (waits-ended m config w step legal.outcomes i at)
           by_place (inr apart) = elsewhere (λ e. apart (some_is j i (sym e ∙ at)))
 
   waits-later : (steps : List (Step Op)) (w : Facts Op) (v : RunState Value Op) → IsPoint m config w v
-      → Fits m config steps → LegalFrom m config w steps → ((i : ℕ) → Waits w i) → (i : ℕ)
+      → LegalFrom m config w steps → ((i : ℕ) → Waits w i) → (i : ℕ)
       → Waits (facts_after m config w steps) i
-  waits-later [] w v p fits legal waits = waits
-  waits-later (step ∷ steps) w v p fits legal waits =
-      waits-later steps (after m config w step) (stepped m v step.event).run
-      (step-point m kind_of lawful config w v p step fits.0 legal.0).0 fits.1 legal.1
-      (waits-step w v p step fits.0 legal.0 waits)
+  waits-later [] w v p legal waits = waits
+  waits-later (step ∷ steps) w v p legal waits =
+      let one = step-point m kind_of lawful config w v p step legal.0 in
+      waits-later steps (after m config w step) one.0 one.1 legal.1 (waits-step w v p step legal.0 waits)
 
   -- ---- gossip that is sent and delivered
 
   module _ (w : Facts Op) (v : RunState Value Op) (p : IsPoint m config w v) where
     -- what was received where gossip was sent is received where it was delivered
     spreads : (first between last : List (Step Op)) (sending delivering : Step Op)
-        → Fits m config (first ++ sending ∷ between ++ delivering ∷ last)
         → LegalFrom m config w (first ++ sending ∷ between ++ delivering ∷ last) → (from to number : ℕ)
         → sending.event ≡ GossipEvent from to
         → IsAmong (Send number (Replica from) (Replica to) Gossip) sending.outcomes
         → delivering.event ≡ Deliver number
         → w.received from ⊆ (facts_after m config w (first ++ sending ∷ between ++ delivering ∷ last)).received to
-    spreads first between last sending delivering fits legal from to number event sent delivered s here =
+    spreads first between last sending delivering legal from to number event sent delivered s here =
         let start : List (Step Op) = first ++ sending ∷ between in
-        let fits1 = each-parts _ start (delivering ∷ last) fits in
-        let fits0 = each-parts _ first (sending ∷ between) fits1.0 in
         let legal1 = legal-parts m config start (delivering ∷ last) w legal in
         let legal0 = legal-parts m config first (sending ∷ between) w legal1.0 in
         let w1 = facts_after m config w first in
-        let a = later-point m kind_of lawful config first w v p fits0.0 legal0.0 in
-        let b = step-point m kind_of lawful config w1 a.0 a.1 sending fits0.1.0 legal0.1.0 in
-        let c = later-point m kind_of lawful config between (after m config w1 sending) (stepped m a.0 sending.event).run b.0
-        fits0.1.1 legal0.1.1 in
+        let a = later-point m kind_of lawful config first w v p legal0.0 in
+        let b = step-point m kind_of lawful config w1 a.0 a.1 sending legal0.1.0 in
+        let c = later-point m kind_of lawful config between (after m config w1 sending) b.0 b.1
+        legal0.1.1 in
         let w3 = facts_after m config (after m config w1 sending) between in
         let same : facts_after m config w start ≡ w3 = facts-parts m config first (sending ∷ between) w in
         let legal3 = subst (λ (u : Facts Op). LegalFrom m config u (delivering ∷ last)) same legal1.1 in
-        let d = step-point m kind_of lawful config w3 c.0 c.1 delivering fits1.1.0 legal3.0 in
-        let e = later-point m kind_of lawful config last (after m config w3 delivering) (stepped m c.0 delivering.event).run d.0
-        fits1.1.1 legal3.1 in
-        let sends = gossip-sent m config w1 sending legal0.1.0 from to event in
+        let d = step-point m kind_of lawful config w3 c.0 c.1 delivering legal3.0 in
+        let e = later-point m kind_of lawful config last (after m config w3 delivering) d.0 d.1
+        legal3.1 in
+        let sends = gossip-sent m config w1 sending legal0.1.0.outcomes from to event in
         let x = gossip_in w1 from to in
         let messages = extends-more (x ∷ w1.messages) (after m config w1 sending).messages w3.messages sends c.2.messages in
-        let named = gossip-number m config w1 sending legal0.1.0 from to number event sent in
+        let named = gossip-number m config w1 sending legal0.1.0.outcomes from to number event sent in
         let found = ap (λ n. find (λ (y : SentMessage Op). y.number == n) w3.messages) named
         ∙ ap (find (λ (y : SentMessage Op). y.number == next_number w1)) messages.1
         ∙ found-among x _ (subst IsNumbered messages.1 c.1.keeps.numbered)
         (among-right x messages.0 (x ∷ w1.messages) (inl refl)) in
-        let taken = gossip-taken m config w3 delivering legal3.0 from to w1 number delivered found in
+        let taken = gossip-taken m config w3 delivering legal3.0.outcomes from to w1 number delivered found in
         let end : facts_after m config w (start ++ delivering ∷ last) ≡ facts_after m config (after m config w3 delivering) last =
         facts-parts m config start (delivering ∷ last) w ∙ ap (λ (u : Facts Op). facts_after m config u (delivering ∷ last)) same in
         ap (λ (u : Facts Op). u.received to s) end
         ∙ e.2.received to s (ap (λ (r : SpotSet). r s) taken ∙ or-right _ _ (a.2.received from s here))
 
-    gossip-spreads : (steps : List (Step Op)) → Fits m config steps → LegalFrom m config w steps → (from to : ℕ)
+    gossip-spreads : (steps : List (Step Op)) → LegalFrom m config w steps → (from to : ℕ)
         → HasGossiped steps from to → w.received from ⊆ (facts_after m config w steps).received to
-    gossip-spreads steps fits legal from to g s here =
+    gossip-spreads steps legal from to g s here =
         ap (λ (steps : List (Step Op)). (facts_after m config w steps).received to s) g.steps_are
-        ∙ spreads g.first g.between g.last g.sending g.delivering (subst (Fits m config) g.steps_are fits)
+        ∙ spreads g.first g.between g.last g.sending g.delivering
         (subst (LegalFrom m config w) g.steps_are legal) from to g.number g.event g.sent g.delivered s here
 
   -- ---- a round
 
-  module _ (before round : List (Step Op)) (fits : Fits m config (before ++ round))
+  module _ (before round : List (Step Op))
       (legal : IsLegal m config (before ++ round)) (whole : IsRound config round)
       (quiet : (facts_of m config (before ++ round)).accepted ≡ (facts_of m config before).accepted) (i : ℕ)
       (here : i < config.replicas) where
@@ -232,11 +226,10 @@ module _ {Value Op : Type 0} (m : Meaning Value Op) {e : Encoding Value} (kind_o
 
     pub all-received : HasReceivedAll last i
     all-received =
-        let fit = each-parts _ before round fits in
         let parts = legal-parts m config before round first_facts legal in
         let w = facts_of m config before in
-        let at = any-point m kind_of lawful config before fit.0 parts.0 in
-        let now = later-point m kind_of lawful config round w at.0 at.1 fit.1 parts.1 in
+        let at = any-point m kind_of lawful config before parts.0 in
+        let now = later-point m kind_of lawful config round w at.0 at.1 parts.1 in
         subst (λ (l : List (Acceptance Op)). Each (λ a. last.received i a.spot ≡ true) l) (sym quiet)
         (each-from _ w.accepted (λ a member.
         let own = at.1.same.shared.own a member in
@@ -244,14 +237,14 @@ module _ {Value Op : Type 0} (m : Meaning Value Op) {e : Encoding Value} (kind_o
         ap (λ (u : Facts Op). u.received i a.spot) (facts-parts m config before round first_facts)
         ∙ (elim (equal-or-not i a.spot.place) [
           | inl is ↦ now.2.received i a.spot (ap (λ j. w.received j a.spot) is ∙ own)
-          | inr apart ↦ gossip-spreads w at.0 at.1 round fit.1 parts.1 a.spot.place i
+          | inr apart ↦ gossip-spreads w at.0 at.1 round parts.1 a.spot.place i
               (whole a.spot.place i place here (λ e. apart (sym e))) a.spot own
         ])))
 
     pub none-held : last.held i ≡ []
     none-held =
         by_list (last.held i) (waits-later (before ++ round) first_facts (first_run m config)
-        (first-point m kind_of lawful config) fits legal (λ j. tt) i)
+        (first-point m kind_of lawful config) legal (λ j. tt) i)
       where
         by_list : (calls : List (LabelledCall Op))
             → Each (λ call. is_within last.accepted call.label (last.received i) ≡ false) calls → calls ≡ []

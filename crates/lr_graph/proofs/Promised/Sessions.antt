@@ -2,7 +2,6 @@
 use Rattle.std.proofs.Common.{◌≡◌, ℕ, ◌<◌, ◌≤◌, ◌==◌, Bool, true, cond, false, find, inl, inr, List, [], ◌∷◌, ◌++◌}
 use Rattle.std.proofs.Common.{Option, Some, None, refl, sym, ap, ◌∙◌, subst, subst₂, arith}
 use Rattle.lr_base.specs.Ascending.{same_cid}
-use Rattle.lr_base.specs.Events.{IsEventOf}
 use Rattle.lr_base.specs.Meaning.{Encoding, Lawful, Meaning}
 use Rattle.lr_base.specs.Orders.{IsAmong}
 use Rattle.lr_base.specs.declared.acts.Posted.{Posted}
@@ -22,14 +21,14 @@ use Rattle.lr_graph.specs.Central.{facts_after}
 use Rattle.lr_graph.specs.Closed.{IsSetOf, IsSound}
 use Rattle.lr_graph.specs.Graph.{Acceptance, Carried, Facts, FrontFacts, LabelledCall, SentMessage}
 use Rattle.lr_graph.specs.Graph.{UpdateCopy, QueryCopy, DoneReply, AnswerReply, GossipOf, Blank, ready}
-use Rattle.lr_graph.specs.Legal.{LegalFrom, answers_at, delivery_lines, outcomes_of, reply_line}
+use Rattle.lr_graph.specs.Legal.{LegalFrom, answers_at, delivery_lines, outcomes_of, reply_line, IsLegalStep}
 use Rattle.lr_graph.specs.Promises.{◌⊆◌}
-use Rattle.lr_graph.specs.Runs.{RunState, message_at, stepped}
+use Rattle.lr_graph.specs.Runs.{RunState, message_at}
 use Rattle.lr_graph.specs.Sets.{SpotSet}
 use Rattle.lr_graph.proofs.Lists.Members.{each-at, each-from, find-some}
 use Rattle.lr_graph.proofs.Lists.Tests.{or-left, or-right, same_cid-is}
 use Rattle.lr_graph.proofs.Promised.Changes.{IsOpenFine, Keeps, Rule, holds-more}
-use Rattle.lr_graph.proofs.Promised.Points.{Fits, IsPoint, fresh, set-later, step-point}
+use Rattle.lr_graph.proofs.Promised.Points.{IsPoint, fresh, set-later, step-point}
 use Rattle.lr_graph.proofs.Promised.Walk.{IsAnswered, IsOpened, step-next}
 use Rattle.lr_graph.proofs.Related.Relation.{SameCarried, SameMessage, SameOption, calls_in}
 use Rattle.lr_graph.proofs.Related.Relation.{same_answer, same_done, same_gossip, same_query, same_update}
@@ -174,18 +173,19 @@ module _ {Value Op : Type 0} (m : Meaning Value Op) (config : Config) (client k 
 
   module _ {e : Encoding Value} (kind_of : Op → Kind) (lawful : Lawful m e kind_of) where
     told-step : (w : Facts Op) (v : RunState Value Op) → IsPoint m config w v → IsTold client k told w
-        → (step : Step Op)
-        → IsEventOf m config step.event → step.outcomes ≡ outcomes_of m config w step.event
-        → IsPoint m config (after m config w step) (stepped m v step.event).run × IsTold client k told (after m config w step)
-    told-step w v p h step fits legal =
-        let one = step-point m kind_of lawful config w v p step fits legal in
-        let more = one.1.later in
-        let sound = subst IsSound more.accepted.1 one.0.same.shared.sound in
+        → (step : Step Op) → IsLegalStep m config w step
+        → (u : RunState Value Op) × IsPoint m config (after m config w step) u
+        × IsTold client k told (after m config w step)
+    told-step w v p h step legal =
+        let one = step-point m kind_of lawful config w v p step legal in
+        let more = one.2.later in
+        let sound = subst IsSound more.accepted.1 one.1.same.shared.sound in
         let set = subst (λ l. IsSetOf l told) (sym more.accepted.1)
         (set-later w.accepted more.accepted.0 told sound h.set) in
         let next = step-next m config (above client k told) w v h.keeps p.same (answered w.accepted h.set) (opens w h)
-        step legal (answered (after m config w step).accepted set) in (
+        step legal.outcomes (answered (after m config w step).accepted set) in (
           one.0,
+          one.1,
           record {
             keeps = next.keeps;
             label = λ s e. more.label client s (h.label s e);
@@ -195,13 +195,13 @@ module _ {Value Op : Type 0} (m : Meaning Value Op) (config : Config) (client k 
         )
 
     pub told-later : (steps : List (Step Op)) (w : Facts Op) (v : RunState Value Op) → IsPoint m config w v
-        → IsTold client k told w → Fits m config steps → LegalFrom m config w steps
+        → IsTold client k told w → LegalFrom m config w steps
         → (u : RunState Value Op) × IsPoint m config (facts_after m config w steps) u
         × IsTold client k told (facts_after m config w steps)
-    told-later [] w v p h fits legal = (v, p, h)
-    told-later (step ∷ steps) w v p h fits legal =
-        let one = told-step w v p h step fits.0 legal.0 in
-        told-later steps (after m config w step) (stepped m v step.event).run one.0 one.1 fits.1 legal.1
+    told-later [] w v p h legal = (v, p, h)
+    told-later (step ∷ steps) w v p h legal =
+        let one = told-step w v p h step legal.0 in
+        told-later steps (after m config w step) one.0 one.1 one.2 legal.1
 
 -- ---- after a reply is taken
 
@@ -245,7 +245,7 @@ module _ {Value Op : Type 0} (m : Meaning Value Op) {e : Encoding Value} (kind_o
       by_what : (what : Carried Op) (message : Message Op)
           → SameCarried m config w.accepted w.received p.same.issued (calls_in w) what message
           → IsReply cid names what → IsSetOf w.accepted names
-      by_what what message (same_update c d t time call times by update plain) is = absurd is
+      by_what what message (same_update c d t time call times by update) is = absurd is
       by_what what message (same_query c d call by) is = absurd is
       by_what what message (same_done c other x at stamp cids named set) is = subst (IsSetOf w.accepted) is.1 set
       by_what what message (same_answer c other x text stamp cids named set) is = subst (IsSetOf w.accepted) is.1 set
@@ -256,16 +256,17 @@ module _ {Value Op : Type 0} (m : Meaning Value Op) {e : Encoding Value} (kind_o
       by_posted (Some y) s = by_what x.what y.message s.what is
 
   -- a client that took a reply was told what this stands for
-  pub taken-told : (step : Step Op) → IsEventOf m config step.event → step.outcomes ≡ outcomes_of m config w step.event
+  pub taken-told : (step : Step Op) → IsLegalStep m config w step
       → (client : ℕ) (cid : Cid) (names : SpotSet) (x : SentMessage Op) → IsReply cid names x.what
       → HasTaken m config w step client cid names x
-      → IsPoint m config (after m config w step) (stepped m v step.event).run
+      → (u : RunState Value Op) × IsPoint m config (after m config w step) u
       × IsTold client (calls_in (after m config w step) client) names (after m config w step)
-  taken-told step fits legal client cid names x is took =
-      let one = step-point m kind_of lawful config w v p step fits legal in
+  taken-told step legal client cid names x is took =
+      let one = step-point m kind_of lawful config w v p step legal in
       let next = took.taken.next_is in
       let front = ap (λ (u : Facts Op). u.front client) next ∙ put-same client _ w.front in (
         one.0,
+        one.1,
         record {
           keeps = started client names (after m config w step) (ap (λ (f : FrontFacts Op). f.open_call) front) one.1.keeps;
           label = λ s here. ap (λ (f : FrontFacts Op). f.label s) front ∙ or-right _ _ here;

@@ -2,7 +2,7 @@
 use Rattle.std.proofs.Common.{◌≡◌, ◌^◌, ℕ, suc, ◌==◌, Bool, true, false, cond, find, inl, inr, List, [], ◌∷◌, ◌++◌}
 use Rattle.std.proofs.Common.{Option, Some, None, refl, sym, ap, ◌∙◌, subst, arith}
 use Rattle.lr_base.specs.Ascending.{same_cid}
-use Rattle.lr_base.specs.Kinds.{is_query}
+use Rattle.lr_base.specs.Kinds.{is_query, has_rules}
 use Rattle.lr_base.specs.Meaning.{Encoding, Lawful, Meaning}
 use Rattle.lr_base.specs.Orders.{IsAmong}
 use Rattle.lr_base.specs.declared.events.Event.{Event}
@@ -23,16 +23,16 @@ use Rattle.lr_graph.specs.Closed.{Each}
 use Rattle.lr_graph.specs.Graph.{Acceptance, Carried, Facts, LabelledCall, SentMessage, UpdateCopy, QueryCopy}
 use Rattle.lr_graph.specs.Graph.{DoneReply, AnswerReply, GossipOf, Blank, below_of, first_facts, is_within, kept_spot}
 use Rattle.lr_graph.specs.Graph.{made, ready, value}
-use Rattle.lr_graph.specs.Legal.{IsLegal, accept_lines, answer_line, answers, answers_at, call_lines, delivery_lines}
+use Rattle.lr_graph.specs.Legal.{IsLegal, accept_lines, answer_line, answers, answers_at, call_lines, delivery_lines, copy_lines}
 use Rattle.lr_graph.specs.Legal.{done_line, message_lines, next_number, outcomes_of, own_lines, query_lines}
 use Rattle.lr_graph.specs.Legal.{reply_line, taken_at, update_lines}
 use Rattle.lr_graph.specs.Promises.{IsDoneAt, IsReadAfter, Takes, facts_of}
-use Rattle.lr_graph.specs.Runs.{RunState, stepped}
+use Rattle.lr_graph.specs.Runs.{RunState}
 use Rattle.lr_graph.specs.Sets.{SpotSet, only, ◌∪◌}
 use Rattle.lr_graph.proofs.Lists.Members.{among-right, each-append, each-at, each-map, find-some}
 use Rattle.lr_graph.proofs.Lists.Tests.{same_spot-self}
 use Rattle.lr_graph.proofs.Promised.Changes.{Keeps, WasSent, found-among}
-use Rattle.lr_graph.proofs.Promised.Points.{Fits, IsPoint, any-point, each-parts, facts-parts, fresh, later-point}
+use Rattle.lr_graph.proofs.Promised.Points.{IsPoint, any-point, facts-parts, fresh, later-point}
 use Rattle.lr_graph.proofs.Promised.Points.{legal-parts, step-point}
 use Rattle.lr_graph.proofs.Promised.Walk.{after-parts, answers-send, own-next, own_read, sent-there}
 use Rattle.lr_graph.proofs.Promised.Walk.{taken-again}
@@ -210,8 +210,7 @@ module _ {Value Op : Type 0} (m : Meaning Value Op) where
           → IsThere config to
           → WasSent w.messages what
           → Said (came to what (message_lines m config w to what)) (message_lines m config w to what)
-      message-said v same (Replica j) (UpdateCopy call time) there asked = by_spot
-          (taken_at config w j call.cid (kept_spot (w.kept j) call.cid)) refl
+      message-said v same (Replica j) (UpdateCopy call time) there asked = by_rules (has_rules (m.kind call.op))
         where
           by_spot : (o : Option Spot) → taken_at config w j call.cid (kept_spot (w.kept j) call.cid) ≡ o
               → Said (came (Replica j) (UpdateCopy call time) (update_lines config w j call.cid o))
@@ -221,6 +220,11 @@ module _ {Value Op : Type 0} (m : Meaning Value Op) where
               let a = taken-again m config w v same j there call.cid spot e in
               let below = ap (below_of w.accepted) (sym a.3) ∙ below_of-is w.accepted same.shared.sound.apart a.0 a.1 in
               (tt, (done-said w.accepted w.received j call.cid spot a.0 a.1 a.2 a.3 below, tt))
+
+          by_rules : (rules : Bool) → Said (came (Replica j) (UpdateCopy call time) (copy_lines config w j call rules))
+              (copy_lines config w j call rules)
+          by_rules false = tt
+          by_rules true = by_spot (taken_at config w j call.cid (kept_spot (w.kept j) call.cid)) refl
       message-said v same (Replica j) (QueryCopy call) there asked = query-said j call _ _ asked
       message-said v same (Replica j) (DoneReply c names) there asked = tt
       message-said v same (Replica j) (AnswerReply c names) there asked = tt
@@ -275,7 +279,6 @@ module _ {Value Op : Type 0} (m : Meaning Value Op) where
 
 module _ {Value Op : Type 0} (m : Meaning Value Op) {e : Encoding Value} (kind_of : Op → Kind) (lawful : Lawful m e kind_of) (config : Config)
     (before between later : List (Step Op)) (sending taking : Step Op)
-    (fits : Fits m config (before ++ sending ∷ between ++ taking ∷ later))
     (legal : IsLegal m config (before ++ sending ∷ between ++ taking ∷ later))
     (n : ℕ) (delivers : taking.event ≡ Deliver n) (client : ℕ) (cid : Cid) (reply : Carried Op)
     (takes : Takes m config (before ++ sending ∷ between) taking client cid reply) where
@@ -288,9 +291,6 @@ module _ {Value Op : Type 0} (m : Meaning Value Op) {e : Encoding Value} (kind_o
   sent-is : sent ≡ after m config (facts_of m config before) sending
   sent-is = facts-parts m config before (sending ∷ []) first_facts
 
-  start_fits : Fits m config start
-  start_fits = (each-parts _ start (taking ∷ later) fits).0
-
   start_legal : IsLegal m config start
   start_legal = (legal-parts m config start (taking ∷ later) first_facts legal).0
 
@@ -298,21 +298,19 @@ module _ {Value Op : Type 0} (m : Meaning Value Op) {e : Encoding Value} (kind_o
   pub all-said : AllSaid m sent sending.outcomes
   all-said =
       let legal0 = legal-parts m config before (sending ∷ between) first_facts start_legal in
-      let at = any-point m kind_of lawful config before
-      (each-parts _ before (sending ∷ between) start_fits).0 legal0.0 in
+      let at = any-point m kind_of lawful config before legal0.0 in
       subst (λ (u : Facts Op). AllSaid m u sending.outcomes) (sym sent-is)
-      (step-said m config (facts_of m config before) at.0 at.1 sending legal0.1.0)
+      (step-said m config (facts_of m config before) at.0 at.1 sending legal0.1.0.outcomes)
 
   -- what it sent under this number is taken
   pub reply-is : (x : SentMessage Op) → x.number ≡ n → IsAmong x sent.messages → reply ≡ x.what
   reply-is x number among =
-      let fits0 = each-parts _ before (sending ∷ between) start_fits in
       let legal0 = legal-parts m config before (sending ∷ between) first_facts start_legal in
       let w = facts_of m config before in
-      let at = any-point m kind_of lawful config before fits0.0 legal0.0 in
-      let next = step-point m kind_of lawful config w at.0 at.1 sending fits0.1.0 legal0.1.0 in
-      let last = later-point m kind_of lawful config between (after m config w sending) (stepped m at.0 sending.event).run next.0
-      fits0.1.1 legal0.1.1 in
+      let at = any-point m kind_of lawful config before legal0.0 in
+      let next = step-point m kind_of lawful config w at.0 at.1 sending legal0.1.0 in
+      let last = later-point m kind_of lawful config between (after m config w sending) next.0 next.1
+      legal0.1.1 in
       let now = facts_after m config (after m config w sending) between in
       let was = subst (λ (u : Facts Op). IsAmong x u.messages) sent-is among in
       let stays = subst (IsAmong x) (sym last.2.messages.1)

@@ -4,7 +4,7 @@ use Rattle.std.proofs.Common.{List, [], ◌∷◌, ◌++◌, length, Option, Som
 use Rattle.std.proofs.lemmas.List.{append_assoc}
 use Rattle.std.specs.Option.{option_map}
 use Rattle.lr_base.specs.Ascending.{same_cid}
-use Rattle.lr_base.specs.Kinds.{is_query}
+use Rattle.lr_base.specs.Kinds.{is_query, has_rules}
 use Rattle.lr_base.specs.Meaning.{Meaning}
 use Rattle.lr_base.specs.Orders.{IsAmong}
 use Rattle.lr_base.specs.Rules.{known_of}
@@ -27,7 +27,7 @@ use Rattle.lr_graph.specs.Closed.{Each, HasApartSpots}
 use Rattle.lr_graph.specs.Graph.{Acceptance, Carried, Facts, FrontFacts, LabelledCall, SentMessage}
 use Rattle.lr_graph.specs.Graph.{UpdateCopy, QueryCopy, DoneReply, AnswerReply, GossipOf, Blank}
 use Rattle.lr_graph.specs.Graph.{below_of, is_within, kept_spot, made, ready}
-use Rattle.lr_graph.specs.Legal.{accept_lines, answer_line, answers, answers_at, call_lines, delivery_lines, logged}
+use Rattle.lr_graph.specs.Legal.{accept_lines, answer_line, answers, answers_at, call_lines, delivery_lines, logged, copy_lines}
 use Rattle.lr_graph.specs.Legal.{message_lines, next_number, outcomes_of, own_lines, query_lines, reply_line}
 use Rattle.lr_graph.specs.Legal.{taken_at, update_lines}
 use Rattle.lr_graph.specs.Runs.{RunState, message_at}
@@ -228,8 +228,7 @@ module _ {Value Op : Type 0} (m : Meaning Value Op) (config : Config) (R : Rule)
           → Next (receiving (Some (record { number = number; from = from; to = to; what = what }))) w
           (lines_read m config (came_in (Some (record { number = number; from = from; to = to; what = what }))) w
           (message_lines m config w to what))
-      message-next number from (Replica i) (UpdateCopy call time) here fine sent =
-          by_spot (taken_at config w i call.cid (kept_spot (w.kept i) call.cid)) refl
+      message-next number from (Replica i) (UpdateCopy call time) here fine sent = by_rules (has_rules (m.kind call.op))
         where
           by_spot : (o : Option Spot) → taken_at config w i call.cid (kept_spot (w.kept i) call.cid) ≡ o
               → Next (Some i) w
@@ -239,6 +238,12 @@ module _ {Value Op : Type 0} (m : Meaning Value Op) (config : Config) (R : Rule)
           by_spot (Some spot) e =
               again-next i (message i number from call fine (UpdateCopy call time)) call spot same.shared.sound.apart
               (taken-again m config w v same i here call.cid spot e)
+
+          by_rules : (rules : Bool) → Next (Some i) w
+              (lines_read m config (came_in (Some (message i number from call fine (UpdateCopy call time)))) w
+              (copy_lines config w i call rules))
+          by_rules false = next-same R (Some i) w h
+          by_rules true = by_spot (taken_at config w i call.cid (kept_spot (w.kept i) call.cid)) refl
       message-next number from (Replica i) (QueryCopy call) here fine sent =
           query-next i number from call fine _ _ answered sent refl
       message-next number from (Replica i) (DoneReply cid names) here fine sent = next-same R (Some i) w h

@@ -4,7 +4,7 @@ use Rattle.std.proofs.lemmas.List.{append-nil}
 use Rattle.lr_base.specs.Meaning.{Meaning}
 use Rattle.lr_base.specs.Orders.{IsAmong}
 use Rattle.lr_base.specs.Rules.{CausalState}
-use Rattle.lr_base.specs.Steps.{answer_act, done_act, refusing}
+use Rattle.lr_base.specs.Steps.{answer_act, done_act, refusing, idle}
 use Rattle.lr_base.specs.declared.acts.Posted.{Posted}
 use Rattle.lr_base.specs.declared.events.Outcome.TheVariants.{Refuse, Send}
 use Rattle.lr_base.specs.declared.events.Refusal.{Refusal}
@@ -60,6 +60,10 @@ module _ {Value Op : Type 0} (m : Meaning Value Op) (config : Config) (issued : 
 
   abbrev next_is : next_number w ≡ length v.posted + 1
   next_is = let c = shared.count in omega arith
+
+  -- nothing is done
+  pub own-idle : IsOwnPart m config issued w v i x [] (idle state)
+  own-idle = record { lines = refl; shared = same_posts; mid = unchanged-mid m config w i state shared.sound ok; others = others }
 
   -- a refusal
   pub own-refused : (why : Refusal) → IsOwnPart m config issued w v i x (Refuse why ∷ []) (refusing state why)

@@ -22,7 +22,7 @@ use Rattle.lr_base.specs.declared.names.Cid.{Cid}
 use Rattle.lr_base.specs.declared.names.Config.{Config}
 use Rattle.lr_base.specs.declared.names.Spot.{Spot}
 use Rattle.lr_graph.specs.Graph.{Carried, Facts, LabelledCall, QueryCopy, UpdateCopy, is_within, kept_spot, least_spot, made, size_of}
-use Rattle.lr_graph.specs.Legal.{accept_lines, done_line, logged, message_lines, query_lines, taken_at, update_lines}
+use Rattle.lr_graph.specs.Legal.{accept_lines, done_line, logged, message_lines, query_lines, taken_at, update_lines, copy_lines}
 use Rattle.lr_graph.specs.Names.{spot_at}
 use Rattle.lr_graph.specs.Runs.{RunState}
 use Rattle.lr_graph.proofs.Stamps.Central.{stamp_le-within}
@@ -39,6 +39,7 @@ use Rattle.lr_graph.proofs.Logs.Tallying.{made-count}
 use Rattle.lr_graph.proofs.Lists.Tests.{never}
 use Rattle.lr_graph.specs.After.{Handling}
 use Rattle.lr_graph.proofs.Handled.{came_in}
+use Rattle.lr_graph.proofs.Histories.Updates.{IsPlain}
 
 same-length : {A B : Type 0} (R : A → B → Type 0) (xs : List A) (ys : List B) → SameList R xs ys → length xs ≡ length ys
 same-length R [] [] h = refl
@@ -169,15 +170,17 @@ module _ {Value Op : Type 0} (m : Meaning Value Op) (config : Config) (issued : 
   abbrev CameFrom : Actor → Carried Op → List Outcome → Ending Value Op → Type 0
   CameFrom from what lines end = IsOwnPart m config issued w v i (came_in (Some (record { number = number; from = from; to = Replica i; what = what }))) lines end
 
-  pub own-part : (from : Actor) (what : Carried Op) (message : Message Op) → IsWay from (Replica i) what → SameCarried m config w.accepted w.received issued (calls_in w) what message
+  pub own-part : (from : Actor) (what : Carried Op) (message : Message Op) → IsWay from (Replica i) what → IsPlain m what → SameCarried m config w.accepted w.received issued (calls_in w) what message
       → CameFrom from what (message_lines m config w (Replica i) what) (own_taken m config i state from message)
-  own-part (Client f) what message way (same_update c d t time call times by update plain) = own-update m config issued w v shared i here state ok others number (Client f) c d call by update plain t time
-  own-part (Client f) what message way (same_query c d call by) = own-query m config issued w v shared i here state ok others number (Client f) c d call by
-  own-part (Replica k) what message way (same_gossip names g same) = own-taken m config issued w v shared i here state ok others number k way names g same
-  own-part (Client f) what message way (same_done cid other names at stamp cids named set) = absurd way
-  own-part (Client f) what message way (same_answer cid other names text stamp cids named set) = absurd way
-  own-part (Client f) what message way (same_gossip names g same) = absurd way
-  own-part (Replica k) what message way (same_update c d t time call times by update plain) = absurd way
-  own-part (Replica k) what message way (same_query c d call by) = absurd way
-  own-part (Replica k) what message way (same_done cid other names at stamp cids named set) = absurd way
-  own-part (Replica k) what message way (same_answer cid other names text stamp cids named set) = absurd way
+  own-part (Client f) what message way plain (same_update c d t time call times by update) =
+      subst (λ b. CameFrom (Client f) (UpdateCopy c t) (copy_lines config w i c b) (own_taken m config i state (Client f) message)) (sym plain)
+      (own-update m config issued w v shared i here state ok others number (Client f) c d call by update plain t time)
+  own-part (Client f) what message way plain (same_query c d call by) = own-query m config issued w v shared i here state ok others number (Client f) c d call by
+  own-part (Replica k) what message way plain (same_gossip names g same) = own-taken m config issued w v shared i here state ok others number k way names g same
+  own-part (Client f) what message way plain (same_done cid other names at stamp cids named set) = absurd way
+  own-part (Client f) what message way plain (same_answer cid other names text stamp cids named set) = absurd way
+  own-part (Client f) what message way plain (same_gossip names g same) = absurd way
+  own-part (Replica k) what message way plain (same_update c d t time call times by update) = absurd way
+  own-part (Replica k) what message way plain (same_query c d call by) = absurd way
+  own-part (Replica k) what message way plain (same_done cid other names at stamp cids named set) = absurd way
+  own-part (Replica k) what message way plain (same_answer cid other names text stamp cids named set) = absurd way

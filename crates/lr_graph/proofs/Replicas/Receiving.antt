@@ -143,7 +143,7 @@ module _ {Value Op : Type 0} (m : Meaning Value Op) (config : Config) (issued : 
       by_place false q = e
 
   carried-more : (x : Carried Op) (p : Message Op) → SameCarried m config l w.received issued (calls_in w) x p → SameCarried m config (a ∷ l) w1.received issued (calls_in w) x p
-  carried-more x p (same_update e f t time call times by update plain) = same_update e f t time (call-more l a fresh shared.sound e f call) times by update plain
+  carried-more x p (same_update e f t time call times by update) = same_update e f t time (call-more l a fresh shared.sound e f call) times by update
   carried-more x p (same_query e f call by) = same_query e f (call-more l a fresh shared.sound e f call) by
   carried-more x p (same_done cid other names at stamp cids named set) = same_done cid other names at stamp cids named (set-more l a fresh shared.sound names set)
   carried-more x p (same_answer cid other names text stamp cids named set) = same_answer cid other names text stamp cids named (set-more l a fresh shared.sound names set)

@@ -12,7 +12,7 @@ use Rattle.lr_base.specs.declared.messages.LogUpdate.{LogUpdate}
 use Rattle.lr_base.specs.declared.messages.Message.{Message}
 use Rattle.lr_base.specs.declared.names.Config.{Config}
 use Rattle.lr_base.specs.declared.names.Spot.{Spot}
-use Rattle.lr_graph.specs.Central.{CarriesStamp, HasStamps, IsCentral, IsHeldIn, IsUpdateIn, StandsForSet, greatest, joined}
+use Rattle.lr_graph.specs.Central.{CarriesStamp, HasStamps, IsCentral, IsHeldIn, IsUpdateIn, StandsForSet, greatest, joined, IsCallIn, IsMessageIn}
 use Rattle.lr_graph.specs.Closed.{Each, HasApartSpots, HasOlderCauses, IsSetOf, IsSound, causes}
 use Rattle.lr_graph.specs.Graph.{Acceptance, Carried, Facts, LabelledCall, SentMessage, is_within, ready}
 use Rattle.lr_graph.specs.Legal.{logged}
@@ -23,7 +23,7 @@ use Rattle.lr_graph.proofs.Stamps.Central.{below-set, stamp_le-within}
 use Rattle.lr_graph.proofs.Replicas.Ending.{ready-set}
 use Rattle.lr_graph.proofs.Lists.Members.{each-at, each-from, each-map}
 use Rattle.lr_graph.proofs.Sets.ReadySets.{causes-accepted, self-below, update-stamp}
-use Rattle.lr_graph.proofs.Related.Relation.{IsReplicaAt, IsSame, SameCarried, SameHeld, SameList, SameMessage, SameOption, calls_in, same_answer, same_done, same_gossip, same_query, same_update}
+use Rattle.lr_graph.proofs.Related.Relation.{IsReplicaAt, IsSame, SameCarried, SameHeld, SameList, SameMessage, SameOption, calls_in, same_answer, same_done, same_gossip, same_query, same_update, SameCall}
 use Rattle.lr_graph.proofs.Related.Ties.{IsUpdateOf}
 use Rattle.lr_graph.proofs.Lists.Tests.{and-intro, and-left, and-right, decided, never, not-false, same_spot-is, same_spot-self}
 
@@ -159,16 +159,24 @@ module _ {Value Op : Type 0} (m : Meaning Value Op) (config : Config) (w : Facts
         of = h.0;
         among = h.1.among;
         spot = h.1.spot;
+        cid = h.1.cid;
+        op = h.1.op;
         prev = stands u.prev (causes h.0) h.1.prev (causes-set w.accepted sound h.0 h.1.among);
         stamp = stands (stamp_of u) h.0.below (update-stamp w.accepted sound u h.0 h.1) (below-set w.accepted sound h.0 h.1.among);
       }
 
+  call-in : (c : LabelledCall Op) (d : Call Op) → SameCall w.accepted c d → IsCallIn config w v c d
+  call-in c d call = record { cid = sym call.cid; op = sym call.op; label = stands d.prev c.label call.names call.set }
+
   carries : (x : Carried Op) (p : Message Op) → SameCarried m config w.accepted w.received same.issued (calls_in w) x p → CarriesStamp config w v x p
-  carries x p (same_update c d t time call times by update plain) = stands d.prev c.label call.names call.set
-  carries x p (same_query c d call by) = stands d.prev c.label call.names call.set
-  carries x p (same_done cid other names at stamp cids named set) = stands stamp names named set
-  carries x p (same_answer cid other names text stamp cids named set) = stands stamp names named set
-  carries x p (same_gossip names g h) = (h.counted, each-map (IsUpdateOf w.accepted h.logs) (IsUpdateIn config w v) g.updates (λ u of. update-in u h.logs of) h.log.each)
+  carries x p (same_update c d t time call times by update) = (call-in c d call, sym times)
+  carries x p (same_query c d call by) = call-in c d call
+  carries x p (same_done cid other names at stamp cids named set) = (sym cids, stands stamp names named set)
+  carries x p (same_answer cid other names text stamp cids named set) = (sym cids, stands stamp names named set)
+  carries x p (same_gossip names g h) = record {
+    counted = h.counted;
+    updates = each-map (IsUpdateOf w.accepted h.logs) (IsUpdateIn config w v) g.updates (λ u of. update-in u h.logs of) h.log.each;
+  }
 
   -- each held query has its counterpart
   held-in : (i : ℕ) (cs : List (LabelledCall Op)) (ds : List (Call Op)) → ((c : LabelledCall Op) → IsAmong c cs → IsAmong c (w.held i)) → SameList (SameHeld config.clients w.accepted) cs ds → Each (IsHeldIn config w v i) ds
@@ -176,7 +184,7 @@ module _ {Value Op : Type 0} (m : Meaning Value Op) (config : Config) (w : Facts
   held-in i [] (d ∷ ds) into all = absurd all
   held-in i (c ∷ cs) [] into all = absurd all
   held-in i (c ∷ cs) (d ∷ ds) into all = (
-    record { of = c; among = into c (inl refl); label = stands d.prev c.label all.0.call.names all.0.call.set },
+    record { of = c; among = into c (inl refl); call = call-in c d all.0.call },
     held-in i cs ds (λ x member. into x (inr member)) all.1,
   )
 
@@ -186,6 +194,16 @@ module _ {Value Op : Type 0} (m : Meaning Value Op) (config : Config) (w : Facts
     value = stands replica.causal.val_ts (ready w.accepted (w.received i)) ok.applied.names (ready-set w.accepted same.shared.sound (w.received i));
     held = held-in i (w.held i) replica.causal.held (λ c member. member) ok.held_are;
     updates = each-map (IsUpdateOf w.accepted (logged config w i)) (IsUpdateIn config w v) replica.causal.updates (λ u h. update-in u (logged config w i) h) ok.log.each;
+    by_call = ok.still.keys;
+    executed = ok.applied.table.known;
+    kept = ok.applied.table.spots;
+    known = λ cid known is. (let a = ok.applied.table.stamps cid known is in record {
+      of = a.0;
+      among = a.1;
+      cid_is = a.3;
+      spot = a.2;
+      stamp = stands known.stamp a.0.below a.4 (below-set w.accepted same.shared.sound a.0 a.1);
+    });
   }
 
   pub same-central : IsCentral config w v
@@ -202,10 +220,10 @@ module _ {Value Op : Type 0} (m : Meaning Value Op) (config : Config) (w : Facts
   }
     where
       by_found : (n : ℕ) (p : Posted Op) (o : Option (SentMessage Op)) → find (λ y. y.number == n) w.messages ≡ o → SameOption (SameMessage m config w.accepted w.received same.issued (calls_in w)) (find (λ y. y.number == n) w.messages) (Some p)
-          → (x : SentMessage Op) × (find (λ y. y.number == n) w.messages ≡ Some x) × CarriesStamp config w v x.what p.message
+          → (x : SentMessage Op) × (find (λ y. y.number == n) w.messages ≡ Some x) × IsMessageIn config w v x p
       by_found n p o e h = go o e (subst (λ q. SameOption (SameMessage m config w.accepted w.received same.issued (calls_in w)) q (Some p)) e h)
         where
           go : (o : Option (SentMessage Op)) → find (λ y. y.number == n) w.messages ≡ o → SameOption (SameMessage m config w.accepted w.received same.issued (calls_in w)) o (Some p)
-              → (x : SentMessage Op) × (find (λ y. y.number == n) w.messages ≡ Some x) × CarriesStamp config w v x.what p.message
+              → (x : SentMessage Op) × (find (λ y. y.number == n) w.messages ≡ Some x) × IsMessageIn config w v x p
           go None e h = absurd h
-          go (Some x) e h = (x, e, carries x.what p.message h.what)
+          go (Some x) e h = (x, e, record { from = sym h.from; to = sym h.to; what = carries x.what p.message h.what })

@@ -149,9 +149,14 @@ impl<O: Operation> Gathered<O> {
         to: Actor,
         what: &Sent,
     ) -> Result<(), NoMemory>
-        ensures { OnOk result (told self.new ≡ record (told self.old) { messages = record {
-            number = number; from = from; to = to; what = carried (told self.old) from what.now
-        } ∷ (told self.old).messages }) }
+        ensures { OnOk result (told self.new ≡ record (told self.old) {
+          messages = record {
+            number = number;
+            from = from;
+            to = to;
+            what = carried (told self.old) from what.now;
+          } ∷ (told self.old).messages;
+        }) }
     {
         let load = self.carried(alloc, from, what)?;
         self.messages.put(SentCopy {

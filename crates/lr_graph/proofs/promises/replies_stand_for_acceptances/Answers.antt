@@ -4,6 +4,6 @@ use Rattle.lr_graph.proofs.Promised.Spoken.{done-taken}
 use Rattle.lr_graph.proofs.promises.replies_stand_for_acceptances.Goals as goal
 
 pub returns : goal.returns
-returns g c config before between later one other n i f cid spot names fits legal said delivers takes =
-    done-taken g.S.Service.meaning _ g.met.S.Service.lawful config before between later one other fits legal
+returns g c config before between later one other n i f cid spot names legal said delivers takes =
+    done-taken g.S.Service.meaning _ g.met.S.Service.lawful config before between later one other legal
     n delivers f cid (DoneReply cid names) takes i spot names refl said

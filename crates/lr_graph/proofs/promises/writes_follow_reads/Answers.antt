@@ -4,6 +4,6 @@ use Rattle.lr_graph.proofs.Promised.Later.{told-update}
 use Rattle.lr_graph.proofs.promises.writes_follow_reads.Goals as goal
 
 pub returns : goal.returns
-returns g c config before between later answer call client first second seen a fits legal took calls member of =
-    told-update g.S.Service.meaning _ g.met.S.Service.lawful config before between later answer call fits legal client
+returns g c config before between later answer call client first second seen a legal took calls member of =
+    told-update g.S.Service.meaning _ g.met.S.Service.lawful config before between later answer call legal client
     first second seen (AnswerReply first seen) (refl, refl) took calls a member of

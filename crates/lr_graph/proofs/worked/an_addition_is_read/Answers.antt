@@ -7,4 +7,22 @@ use Rattle.lr_graph.specs.Worked.{second_call}
 use Rattle.lr_graph.proofs.worked.an_addition_is_read.Goals as goal
 
 pub returns : goal.returns
-returns c = (refl, (refl, (refl, (refl, ((λ k. Send 4 (Replica 0) (Client 0) (Answer second_call (sym three-read k)) ∷ []), (refl, (refl, tt)))))))
+returns c = (
+  record { event = refl; outcomes = refl },
+  (
+    record { event = refl; outcomes = refl },
+    (
+      record { event = refl; outcomes = refl },
+      (
+        record { event = refl; outcomes = refl },
+        (
+          record {
+            event = refl;
+            outcomes = λ k. Send 4 (Replica 0) (Client 0) (Answer second_call (sym three-read k)) ∷ [];
+          },
+          (record { event = refl; outcomes = refl }, (record { event = refl; outcomes = refl }, tt)),
+        ),
+      ),
+    ),
+  ),
+)

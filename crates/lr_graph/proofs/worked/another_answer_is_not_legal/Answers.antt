@@ -22,4 +22,4 @@ apart : codes "4" ≡ codes "3" → ⊥
 apart e = let same : true ≡ false = ap begins_with_four e in cc
 
 pub returns : goal.returns
-returns c = λ legal. apart (ap text_of legal.1.1.1.1.0 ∙ three-read)
+returns c = λ legal. apart (ap text_of legal.1.1.1.1.0.outcomes ∙ three-read)

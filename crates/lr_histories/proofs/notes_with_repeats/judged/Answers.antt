@@ -9,7 +9,7 @@ use Rattle.lr_histories.proofs.notes_with_repeats.judged.Goals as goal
 pub returns-clause-legal : goal.returns-clause-legal
 returns-clause-legal c =
     legal-alike (turned claims_alike) history.config (history.steps history.line)
-    (found-legal computed_claims history.config (history.steps history.line) refl)
+    (found-legal computed_claims history.config (history.steps history.line) refl refl)
 
 pub returns-clause-altered : goal.returns-clause-altered
 returns-clause-altered c legal =

@@ -1,11 +1,11 @@
 use Rattle.std.proofs.Common.{◌≡◌, ◌∙◌, ◌+◌, ◌-◌, ◌++◌, [], List, ℕ, ap, arith, drop, length, refl, subst, sym, take}
-use Rattle.lr_base.specs.Events.{IsEventOf}
+use Rattle.lr_base.specs.Events.{FitsRun}
 use Rattle.lr_base.specs.declared.names.Config.{Config}
 use Rattle.lr_graph.specs.Made.{IsMade}
 use Rattle.lr_graph.specs.Runs.{RunState}
 use Rattle.lr_script.specs.Script.{events_text, line_of}
 use Rattle.lr_script.specs.Texts.{header_text}
-use Rattle.lr_sim.proofs.Writing.{begun-none, begun-of, cut-at, fits-at, lines-behind, moved-all, moved-front, printed-all, printed-of, run-moved, run-none, run-step}
+use Rattle.lr_sim.proofs.Writing.{begun-none, begun-of, cut-at, event-of, fits-at, lines-behind, moved-all, moved-front, printed-all, printed-of, run-moved, run-none, run-step}
 use Rattle.lr_world.specs.Worlds.{run_of, setup_of}
 use Rattle.lr_sim.proofs.command.write_history.Goals as goal
 
@@ -39,7 +39,7 @@ make_step-requires-clause-fits g c =
     let header = c.args.header.now in
     let event = c.event-item.result in
     let fits = fits-at m header c.args.events.now c.loop-event.event-index event c.requires.fit c.loop-event-test.true c.event-item.is in
-    subst (λ (config : Config). IsEventOf m config event) (sym c.loop-event.invariant.setup)
+    subst (λ (config : Config). FitsRun m config event) (sym c.loop-event.invariant.setup)
     fits.0
 
 pub make_step-requires-clause-line : goal.make_step-requires-clause-line
@@ -69,7 +69,7 @@ returns-in_err-write_full-clause-part g c =
     begun-of m header events (place + 1) _ _ part.0
     (printed-of m header c.what_is_made_is_legal.ensures (take (place + 1) events) (run_of c.make_step.new.run) _ _ part.0
     (run-moved m header (take (place + 1) events) (run_of c.make_step.new.run) _ _ _ _ part.0 part.1
-    (run-step m header c.a_made_history_goes_on.ensures.next (setup_of c.loop-event.run) events place (c.loop-event.number + 1) (run_of c.loop-event.run) (run_of c.make_step.new.run) event _ _ c.loop-event.text _ inv.setup c.loop-event-test.true c.event-item.is (ap (λ (n : ℕ). n + 1) inv.number) fits.0 c.in_ok-make_step.ensures.made c.in_ok-make_step.ensures.text inv.so_far)))
+    (run-step m header c.a_made_history_goes_on.ensures.next (setup_of c.loop-event.run) events place (c.loop-event.number + 1) (run_of c.loop-event.run) (run_of c.make_step.new.run) event _ _ c.loop-event.text _ inv.setup c.loop-event-test.true c.event-item.is (ap (λ (n : ℕ). n + 1) inv.number) (event-of m header event fits) c.in_ok-make_step.ensures.made c.in_ok-make_step.ensures.text inv.so_far)))
 
 pub loop-event-preserved : goal.loop-event-preserved
 loop-event-preserved g c =
@@ -87,7 +87,7 @@ loop-event-preserved g c =
       lines = cut.1;
       so_far =
           run-moved m header (take (place + 1) events) (run_of c.make_step.new.run) _ _ _ _ _ c.in_ok-write_full.ensures.moved
-          (run-step m header c.a_made_history_goes_on.ensures.next (setup_of c.loop-event.run) events place (c.loop-event.number + 1) (run_of c.loop-event.run) (run_of c.make_step.new.run) event _ _ c.loop-event.text _ inv.setup c.loop-event-test.true c.event-item.is (ap (λ (n : ℕ). n + 1) inv.number) fits.0 c.in_ok-make_step.ensures.made c.in_ok-make_step.ensures.text inv.so_far);
+          (run-step m header c.a_made_history_goes_on.ensures.next (setup_of c.loop-event.run) events place (c.loop-event.number + 1) (run_of c.loop-event.run) (run_of c.make_step.new.run) event _ _ c.loop-event.text _ inv.setup c.loop-event-test.true c.event-item.is (ap (λ (n : ℕ). n + 1) inv.number) (event-of m header event fits) c.in_ok-make_step.ensures.made c.in_ok-make_step.ensures.text inv.so_far);
       later = omega (arith, c.in_ok-write_full.ensures.later, inv.later);
     }
 

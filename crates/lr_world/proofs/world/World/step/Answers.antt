@@ -18,7 +18,7 @@ invariant_of-self-inside-in-Ok g c =
     let begun = c.in_ok-pending.ensures.made in (
       made-more g.S.Service.meaning (setup_of it.run) (setup_of c.finish.new.self) _ c.args.event.now it.steps
           c.note.new.steps (run_of it.run) (run_of c.finish.new.self) c.lines.result.now c.a_made_history_goes_on.ensures.next
-          (c.finish.ensures.setup ∙ c.begin.ensures.setup) (ap (λ h. h.config) c.self.view_is) c.requires
+          (c.finish.ensures.setup ∙ c.begin.ensures.setup) (ap (λ h. h.config) c.self.view_is) (c.requires, c.calls_own_op.ensures)
           (c.finish.ensures.run ∙ begun.finishes) (c.lines.ensures ∙ begun.printed) c.in-Ok.ensures.ok it.made,
       tt,
     )
@@ -40,7 +40,7 @@ returns-in-Ok-clause-legal g c =
     (run_of c.finish.new.self)
     (made-more g.S.Service.meaning (setup_of it.run) (setup_of c.finish.new.self) _ c.args.event.now it.steps
     c.note.new.steps (run_of it.run) (run_of c.finish.new.self) c.lines.result.now c.a_made_history_goes_on.ensures.next
-    (c.finish.ensures.setup ∙ c.begin.ensures.setup) (ap (λ h. h.config) c.self.view_is) c.requires
+    (c.finish.ensures.setup ∙ c.begin.ensures.setup) (ap (λ h. h.config) c.self.view_is) (c.requires, c.calls_own_op.ensures)
     (c.finish.ensures.run ∙ begun.finishes) (c.lines.ensures ∙ begun.printed) c.in-Ok.ensures.ok it.made)
 
 pub returns-in-Err-clause-legal : goal.returns-in-Err-clause-legal
