@@ -24,9 +24,10 @@ pub enum CodecFault {
     NoMemory,
 }
 
-/// The state that is spelled so. Other bytes are refused at the first wrong field.
+/// The state that is spelled so, which is in the ranges. Other bytes are refused at the first wrong field.
 pub fn decode<S: Service>(alloc: Global, bytes: &[u8]) -> Result<StableState<S>, CodecFault>
-    ensures { ReadsWhole (decoded_in (state_format S.meaning S.encoding S.NUMBER None) bytes.now) result }
+    ensures read { ReadsWhole (decoded_in (state_format S.meaning S.encoding S.NUMBER None) bytes.now) result }
+    ensures ranges { IfOk result (λ state. is_in_ranges S.meaning S.encoding state ≡ true) }
 {
     decode_of(alloc, None, bytes)
 }
@@ -60,7 +61,9 @@ pub fn decode_own<S: Service>(
     me: u8,
     bytes: &[u8],
 ) -> Result<StableState<S>, CodecFault>
-    ensures { ReadsWhole (decoded_in (state_format S.meaning S.encoding S.NUMBER (Some (replicas, me))) bytes.now) result }
+    ensures read { ReadsWhole
+        (decoded_in (state_format S.meaning S.encoding S.NUMBER (Some (replicas, me))) bytes.now) result }
+    ensures ranges { IfOk result (λ state. is_in_ranges S.meaning S.encoding state ≡ true) }
 {
     decode_of(alloc, Some((replicas, me)), bytes)
 }
@@ -71,7 +74,8 @@ fn decode_of<S: Service>(
     whose: Whose,
     bytes: &[u8],
 ) -> Result<StableState<S>, CodecFault>
-    ensures { ReadsWhole (decoded_in (state_format S.meaning S.encoding S.NUMBER whose) bytes.now) result }
+    ensures read { ReadsWhole (decoded_in (state_format S.meaning S.encoding S.NUMBER whose) bytes.now) result }
+    ensures ranges { IfOk result (λ state. is_in_ranges S.meaning S.encoding state ≡ true) }
 {
     match decoded(bytes, state_field::<S>(alloc, whose, bytes)) {
         Ok(state) => Ok(state),

@@ -1,0 +1,130 @@
+-- What is read of bytes is a state in the ranges.
+use Rattle.std.proofs.Common.{◌≡◌, ◌<◌, ◌+◌, ◌==◌, ◌&&◌, ℕ, suc, Bool, true, List, [], ◌∷◌, length, get_or, refl}
+use Rattle.std.specs.Prelude.{None, Some, Option}
+use Rattle.std.proofs.lemmas.Bool.{and_parts, and_from, lt-ltb}
+use Rattle.lr_base.specs.Bytes.{Bytes, are_bytes, each_may}
+use Rattle.lr_base.specs.Formats.{both, repeated}
+use Rattle.lr_base.specs.Meaning.{Encoding, Meaning}
+use Rattle.lr_base.specs.Stamps.{Stamp, part}
+use Rattle.lr_base.specs.declared.messages.Call.{Call}
+use Rattle.lr_base.specs.declared.messages.Entry.{Entry}
+use Rattle.lr_base.specs.declared.messages.LogAck.{LogAck}
+use Rattle.lr_base.specs.declared.messages.LogUpdate.{LogUpdate}
+use Rattle.lr_codec.specs.declared.items.Item.{Item}
+use Rattle.lr_codec.specs.declared.items.Item.TheVariants.{Update, Ack}
+use Rattle.lr_codec.specs.declared.state.StableState.{StableState}
+use Rattle.lr_codec.specs.Lists.{calls_format, entry_count_format, entry_format, item_format, log_format, marks_format}
+use Rattle.lr_codec.specs.Lists.{merged, order_format}
+use Rattle.lr_codec.specs.Parts.{value_format}
+use Rattle.lr_codec.specs.Ranges.{is_in_ranges, unchecked, unchecked_values}
+use Rattle.lr_codec.specs.States.{Whose, front_format, front_of, frozen_format, is_count_of, is_replica_of}
+use Rattle.lr_codec.specs.States.{lists_format, lists_of, state_format}
+
+-- bytes are below 256 each
+pub all-bytes : (bytes : Bytes) → ((i : ℕ) → get_or bytes i 0 < 256) → are_bytes bytes ≡ true
+all-bytes [] below = refl
+all-bytes (byte ∷ bytes) below = and_from _ _ (lt-ltb byte 256 (below 0)) (all-bytes bytes (λ i. below (suc i)))
+
+module _ {V Op : Type 0} (m : Meaning V Op) (e : Encoding V) where
+  -- items that are written are in the ranges
+  ranged-items : (replicas : ℕ) (rep_ts : Stamp) (last : Option (Item Op)) (items : List (Item Op))
+      → each_may (λ last. (item_format m replicas rep_ts last).is_value) last items ≡ true
+      → each_may (λ last. (item_format (unchecked m) replicas rep_ts last).is_value) last items ≡ true
+  ranged-items replicas rep_ts last [] may = refl
+  ranged-items replicas rep_ts last (Update u ∷ items) may =
+      let parts = and_parts _ _ may in
+      let own : m.is_op u.op ≡ true =
+        (and_parts _ _ (and_parts _ _ (and_parts _ _ (and_parts _ _ parts.0).1).1).1).0 in
+      and_from _ _ (rw own at parts.0) (ranged-items replicas rep_ts (Some (Update u)) items parts.1)
+  ranged-items replicas rep_ts last (Ack a ∷ items) may =
+      let parts = and_parts _ _ may in
+      and_from _ _ parts.0 (ranged-items replicas rep_ts (Some (Ack a)) items parts.1)
+
+  -- and entries
+  ranged-entries : (parts : ℕ) (last : Option (Entry Op)) (entries : List (Entry Op))
+      → each_may (λ last. (entry_format m parts).is_value) last entries ≡ true
+      → each_may (λ last. (entry_format (unchecked m) parts).is_value) last entries ≡ true
+  ranged-entries parts last [] may = refl
+  ranged-entries parts last (entry ∷ entries) may =
+      let each = and_parts _ _ may in
+      let behind = and_parts _ _ (and_parts _ _ (and_parts _ _ (and_parts _ _ each.0).1).1).1 in
+      let own : m.is_op entry.call.op ≡ true = (and_parts _ _ behind.0).0 in
+      and_from _ _ (rw own at each.0) (ranged-entries parts (Some entry) entries each.1)
+
+  -- and the call being frozen
+  ranged-frozen : (parts : ℕ) (opened : Bool) (received : ℕ) (order : ℕ × List (Entry Op))
+      (frozen : Option (ℕ × Call Op))
+      → (frozen_format m parts opened received order).is_value frozen ≡ true
+      → (frozen_format (unchecked m) parts opened received order).is_value frozen ≡ true
+  ranged-frozen parts opened received order None may = refl
+  ranged-frozen parts opened received order (Some numbered) may =
+      let own : m.is_op numbered.1.op ≡ true =
+        (and_parts _ _ (and_parts _ _ (and_parts _ _ (and_parts _ _ (and_parts _ _ may).1).1).1).1).0 in
+      rw own at may
+
+  -- and the log
+  ranged-log : (replicas : ℕ) (rep_ts : Stamp) (updates : List (LogUpdate Op)) (acks : List LogAck)
+      → (log_format m replicas rep_ts).is_value (updates, acks) ≡ true
+      → (log_format (unchecked m) replicas rep_ts).is_value (updates, acks) ≡ true
+  ranged-log replicas rep_ts updates acks may =
+      let items = merged updates acks in
+      let sides = and_parts _ _ may in
+      let each = and_parts (length items == length items)
+      (each_may (λ last. (item_format m replicas rep_ts last).is_value) None items) sides.1 in
+      and_from _ _ sides.0 (and_from _ _ each.0 (ranged-items replicas rep_ts None items each.1))
+
+  -- and the order log
+  ranged-order : (parts : ℕ) (base : ℕ) (entries : List (Entry Op))
+      → (order_format m parts).is_value (base, entries) ≡ true
+      → (order_format (unchecked m) parts).is_value (base, entries) ≡ true
+  ranged-order parts base entries may =
+      let sides = and_parts _ _ may in
+      let counts = and_parts ((entry_count_format base).is_value (length entries))
+      ((repeated (λ (last : Option (Entry Op)). entry_format m parts) (length entries)).is_value entries) sides.1 in
+      let each = and_parts (length entries == length entries)
+      (each_may (λ last. (entry_format m parts).is_value) None entries) counts.1 in
+      and_from _ _ sides.0 (and_from _ _ counts.0 (and_from _ _ each.0 (ranged-entries parts None entries each.1)))
+
+  -- what stands before the lists is in the ranges whosever it is
+  ranged-front : (number : ℕ) (whose : Whose) (s : StableState V Op)
+      → (front_format number whose).is_value (front_of s) ≡ true
+      → (front_format 0 None).is_value (front_of s) ≡ true
+  ranged-front number whose s may =
+      let sides = and_parts _ _ may in
+      let head = and_parts _ _ sides.0 in
+      let replica = and_parts _ _ (and_parts _ _ head.1).1 in
+      let count = and_parts _ _ replica.0 in
+      let own = and_parts _ _ replica.1 in
+      let counted = and_parts _ _ count.1 in
+      let below = and_parts _ _ counted.1 in
+      let me = and_parts _ _ own.1 in
+      and_from _ _ (and_from _ _ head.0 (and_from _ _
+      (and_from _ _ count.0 (and_from _ _ counted.0 (and_from _ _ below.0 refl)))
+      (and_from _ _ own.0 (and_from _ _ me.0 refl)))) sides.1
+
+  -- a state that is written, whosever it is, is in the ranges
+  pub ranged-state : (number : ℕ) (whose : Whose) (s : StableState V Op)
+      → (state_format m e number whose).is_value s ≡ true → is_in_ranges m e s ≡ true
+  ranged-state number whose s is =
+      let n = s.replicas in
+      let lists = lists_format m n s.rep_ts s.opened in
+      let behind = both (frozen_format m (n + 1) s.opened (part s.rep_ts n) (s.base, s.entries)) marks_format in
+      let one = and_parts ((front_format number whose).is_value (front_of s))
+      (lists.is_value (lists_of s) && (value_format e).is_value s.value) is in
+      let two = and_parts (lists.is_value (lists_of s)) ((value_format e).is_value s.value) one.1 in
+      let three = and_parts ((log_format m n s.rep_ts).is_value (s.updates, s.acks))
+      ((calls_format n).is_value s.calls && ((order_format m (n + 1)).is_value (s.base, s.entries)
+      && behind.is_value (s.frozen, s.marks))) two.0 in
+      let four = and_parts ((calls_format n).is_value s.calls)
+      ((order_format m (n + 1)).is_value (s.base, s.entries) && behind.is_value (s.frozen, s.marks))
+      three.1 in
+      let five = and_parts ((order_format m (n + 1)).is_value (s.base, s.entries))
+      (behind.is_value (s.frozen, s.marks)) four.1 in
+      let six = and_parts
+      ((frozen_format m (n + 1) s.opened (part s.rep_ts n) (s.base, s.entries)).is_value s.frozen)
+      (marks_format.is_value s.marks) five.1 in
+      let log = ranged-log n s.rep_ts s.updates s.acks three.0 in
+      let order = ranged-order (n + 1) s.base s.entries five.0 in
+      let frozen = ranged-frozen (n + 1) s.opened (part s.rep_ts n) (s.base, s.entries) s.frozen six.0 in
+      and_from _ _ (ranged-front number whose s one.0) (and_from _ _ (and_from _ _ log (and_from _ _ four.0
+      (and_from _ _ order (and_from _ _ frozen six.1)))) refl)
