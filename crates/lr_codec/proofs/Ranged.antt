@@ -1,11 +1,13 @@
 -- What is read of bytes is a state in the ranges.
-use Rattle.std.proofs.Common.{◌≡◌, ◌<◌, ◌+◌, ◌==◌, ◌&&◌, ℕ, suc, Bool, true, List, [], ◌∷◌, length, get_or, refl}
+use Rattle.std.proofs.Common.{◌≡◌, ◌<◌, ◌+◌, ◌==◌, ◌&&◌, ℕ, suc, Bool, true, List, [], ◌∷◌, length, get_or, nat_le, nat_lt, refl}
 use Rattle.std.specs.Prelude.{None, Some, Option}
 use Rattle.std.proofs.lemmas.Bool.{and_parts, and_from, lt-ltb}
 use Rattle.lr_base.specs.Bytes.{Bytes, are_bytes, each_may}
-use Rattle.lr_base.specs.Formats.{both, repeated}
+use Rattle.lr_base.specs.Formats.{both, number_of, only_where, repeated}
+use Rattle.lr_base.specs.Limits.{most_replicas}
 use Rattle.lr_base.specs.Meaning.{Encoding, Meaning}
 use Rattle.lr_base.specs.Stamps.{Stamp, part}
+use Rattle.lr_base.specs.declared.bytes.BadWhat.TheVariants.{Magic}
 use Rattle.lr_base.specs.declared.messages.Call.{Call}
 use Rattle.lr_base.specs.declared.messages.Entry.{Entry}
 use Rattle.lr_base.specs.declared.messages.LogAck.{LogAck}
@@ -15,10 +17,11 @@ use Rattle.lr_codec.specs.declared.items.Item.TheVariants.{Update, Ack}
 use Rattle.lr_codec.specs.declared.state.StableState.{StableState}
 use Rattle.lr_codec.specs.Lists.{calls_format, entry_count_format, entry_format, item_format, log_format, marks_format}
 use Rattle.lr_codec.specs.Lists.{merged, order_format}
-use Rattle.lr_codec.specs.Parts.{value_format}
+use Rattle.lr_codec.specs.Parts.{byte_where, value_format}
 use Rattle.lr_codec.specs.Ranges.{is_in_ranges, unchecked, unchecked_values}
-use Rattle.lr_codec.specs.States.{Whose, front_format, front_of, frozen_format, is_count_of, is_replica_of}
-use Rattle.lr_codec.specs.States.{lists_format, lists_of, state_format}
+use Rattle.lr_codec.specs.States.{Whose, front_format, front_of, frozen_format, head_format, head_of, is_count_of}
+use Rattle.lr_codec.specs.States.{is_replica_of, lists_format, lists_of, magic, stamps_format, stamps_of, state_format}
+use Rattle.lr_codec.specs.States.{table_format, views_format, views_of}
 
 -- bytes are below 256 each
 pub all-bytes : (bytes : Bytes) → ((i : ℕ) → get_or bytes i 0 < 256) → are_bytes bytes ≡ true
@@ -90,17 +93,22 @@ module _ {V Op : Type 0} (m : Meaning V Op) (e : Encoding V) where
       → (front_format number whose).is_value (front_of s) ≡ true
       → (front_format 0 None).is_value (front_of s) ≡ true
   ranged-front number whose s may =
-      let sides = and_parts _ _ may in
-      let head = and_parts _ _ sides.0 in
-      let replica = and_parts _ _ (and_parts _ _ head.1).1 in
-      let count = and_parts _ _ replica.0 in
-      let own = and_parts _ _ replica.1 in
-      let counted = and_parts _ _ count.1 in
-      let below = and_parts _ _ counted.1 in
-      let me = and_parts _ _ own.1 in
-      and_from _ _ (and_from _ _ head.0 (and_from _ _
-      (and_from _ _ count.0 (and_from _ _ counted.0 (and_from _ _ below.0 refl)))
-      (and_from _ _ own.0 (and_from _ _ me.0 refl)))) sides.1
+      let n = s.replicas in
+      let rest = both (views_format (head_of s)) (both (stamps_format (n + 1)) (table_format n)) in
+      let counts = nat_lt n 256 && (nat_le 1 n && (nat_le n most_replicas && is_count_of whose n)) in
+      let places = nat_lt s.me 256 && (nat_lt s.me n && is_replica_of whose s.me) in
+      let service = (byte_where (λ one. one == number)).is_value number in
+      let sides = and_parts ((head_format number whose).is_value (head_of s))
+      (rest.is_value (views_of s, (stamps_of s, s.table))) may in
+      let head = and_parts ((only_where (λ one. one == magic) Magic (number_of 4)).is_value magic)
+      (service && (counts && places)) sides.0 in
+      let replica = and_parts counts places (and_parts service (counts && places) head.1).1 in
+      let count = and_parts (nat_lt n 256) _ replica.0 in
+      let least = and_parts (nat_le 1 n) _ count.1 in
+      let counted : is_count_of whose n ≡ true = (and_parts (nat_le n most_replicas) _ least.1).1 in
+      let place = and_parts (nat_lt s.me 256) _ replica.1 in
+      let own : is_replica_of whose s.me ≡ true = (and_parts (nat_lt s.me n) _ place.1).1 in
+      and_from _ _ (and_from _ _ head.0 (and_from _ _ (rw counted at replica.0) (rw own at replica.1))) sides.1
 
   -- a state that is written, whosever it is, is in the ranges
   pub ranged-state : (number : ℕ) (whose : Whose) (s : StableState V Op)

@@ -24,7 +24,7 @@ returns-in-Err-clause-err g c =
     let table = c.new-entering.ensures.table ∙ c.replace-table.ensures.value in
     let kept = kept-is last.before first.before last.entered.items c.args.entered.now.items first.entered.items last.table
     c.args.calls.now first.table noted count table c.in-Err.ensures.stays.2 in (
-      c.in-Err.ensures.stays.0,
+      (c.in-Err.ensures.stays.0).0,
       c.end-in-Err.ensures.table ∙ c.undo.ensures.table ∙ kept.1,
       c.end-in-Err.ensures.entered ∙ c.undo.ensures.entered ∙ kept.0,
     )
