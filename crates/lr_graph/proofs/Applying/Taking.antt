@@ -1,5 +1,5 @@
 -- Taking the first update whose causes are applied, and what is known in a longer table.
-use Rattle.std.proofs.Common.{◌≡◌, ℕ, suc, Bool, true, false, cond, ◌||◌, ◌⊎◌, inl, inr, List, [], ◌∷◌, ◌++◌, length, filter, Option, Some, None, is_some, refl, sym, ap, ◌∙◌, subst, true≢false}
+use Rattle.std.proofs.Common.{◌≡◌, ℕ, suc, Bool, true, false, cond, ◌⊎◌, inl, inr, List, [], ◌∷◌, length, filter, Option, Some, None, refl, sym, ap, ◌∙◌, subst, true≢false}
 use Rattle.std.proofs.lemmas.Option.{none-some}
 use Rattle.std.specs.Option.{option_map}
 use Rattle.lr_base.specs.Orders.{IsAmong}
@@ -13,7 +13,7 @@ use Rattle.lr_base.specs.declared.names.Cid.{Cid}
 use Rattle.lr_graph.specs.Closed.{Each}
 use Rattle.lr_graph.specs.Sets.{same_spot}
 use Rattle.lr_graph.proofs.Lists.Members.{each-at, each-from, each-map}
-use Rattle.lr_graph.proofs.Lists.Tests.{or-right, is_before-apart, same_spot-sym, same_cid-is}
+use Rattle.lr_graph.proofs.Lists.Tests.{is_before-apart, same_spot-sym, same_cid-is}
 use Rattle.lr_graph.proofs.Related.Ties.{IsAscending}
 
 -- ---- updates in order

@@ -1,14 +1,12 @@
 -- Logs in the order of spots.
-use Rattle.std.proofs.Common.{◌≡◌, suc, ◌<◌, ◌≤◌, ◌≢◌, Bool, true, false, cond, ◌&&◌, ◌⊎◌, ◌==◌, inl, inr, nat_lt, List, refl, sym, ap, ◌∙◌, arith, eqb-true, eq-eqb, le-leb, leb-true, true≢false}
+use Rattle.std.proofs.Common.{◌≡◌, Bool, true, false, cond, inl, inr, List, refl, sym, true≢false}
 pub use Rattle.lr_base.specs.NameLaws.{before-apart, before-trans, behind-shown}
 use Rattle.lr_base.specs.Orders.{IsAmong}
 use Rattle.lr_base.specs.InsertionLaws.{among-inserted, ascends-inserted, each-inserted}
 use Rattle.lr_base.specs.Rules.{is_before, insert_update}
 use Rattle.lr_base.specs.declared.messages.LogUpdate.{LogUpdate}
-use Rattle.lr_base.specs.declared.names.Spot.{Spot}
 use Rattle.lr_graph.specs.Closed.{Each}
 use Rattle.lr_graph.proofs.Lists.Members.{each-map}
-use Rattle.lr_graph.proofs.Lists.Tests.{and-intro, and-left, and-right, equal-or-not, le-or-lt, or-cases, or-left, or-right}
 use Rattle.lr_graph.proofs.Related.Ties.{IsAscending}
 
 -- ---- a log with one update more

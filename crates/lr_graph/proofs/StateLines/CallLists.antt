@@ -5,14 +5,12 @@ use Rattle.lr_base.specs.Ascending.{cid_before}
 use Rattle.lr_base.specs.Calls.{AreByCall}
 use Rattle.lr_base.specs.Orders.{IsAmong}
 use Rattle.lr_base.specs.InsertionLaws.{among-inserted, ascends-inserted, each-inserted}
-use Rattle.lr_base.specs.NameLaws.{cid-apart, cid-neither, cid-trans, same_cid-is, same_cid-self}
+use Rattle.lr_base.specs.NameLaws.{cid-apart, cid-trans, same_cid-is, same_cid-self}
 use Rattle.lr_base.specs.Rules.{known_of, same_cid}
 use Rattle.lr_base.specs.declared.messages.Known.{Known}
 use Rattle.lr_base.specs.declared.names.Cid.{Cid}
-use Rattle.lr_base.specs.declared.names.Spot.{Spot}
 use Rattle.lr_graph.specs.Closed.{Each}
 use Rattle.lr_graph.specs.Graph.{Acceptance, calls_of, has_call}
-use Rattle.lr_graph.specs.Names.{spot_at}
 use Rattle.lr_graph.specs.Sets.{SpotSet, insert_call}
 use Rattle.lr_graph.proofs.Lists.Ascents.{Ascends, same-ascents}
 use Rattle.lr_graph.proofs.Lists.Members.{each-at, each-from, each-map}
