@@ -10,3 +10,8 @@ pub mod FaultLemmas
 pub mod ScriptRefusals
 pub mod OneMeaning
 pub mod Refusing
+pub mod Finding
+pub mod FindingHeaders
+pub mod FindingEvents
+pub mod FindingCalls
+pub mod FindingLines

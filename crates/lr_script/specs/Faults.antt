@@ -16,7 +16,7 @@ use Rattle.lr_script.specs.declared.fields.EventWord.TheVariants.{Call, Deliver,
 use Rattle.lr_script.specs.declared.heading.Header.{Header as Head}
 use Rattle.lr_base.specs.declared.events.Event.{Event}
 use Rattle.lr_script.specs.Texts.{header_text}
-use Rattle.lr_script.specs.Script.{line_of, events_text, IsNoCalled, IsSetUp, Fits, IsNoScript}
+use Rattle.lr_script.specs.Script.{line_of, events_text, IsNoCalled, IsSetUp, Fits, IsNoScript, IsScript}
 use Rattle.lr_script.specs.Fields.{spaces, word_text, four_fields, IsCallFields, IsNoNumber, IsPair}
 
 -- there is a line feed among the bytes
@@ -205,3 +205,8 @@ pub record IsRefusal {Value Op : Type 0}
 abbrev pub IsRefused : {Value Op : Type 0} → Meaning Value Op → List ℕ → ScriptFault → Type 0
 IsRefused m bytes (Line line cause) = IsRefusal m bytes line cause
 IsRefused m bytes NoMemory = Unit {0}
+
+-- the bytes are the script of a header and events, or are refused at a line for a cause
+abbrev pub HasMeaning : {Value Op : Type 0} → Meaning Value Op → List ℕ → Type 0
+HasMeaning {Value} {Op} m bytes = ((header : Head) × (events : List (Event Op)) × IsScript m header events bytes)
+    ⊎ ((line : ℕ) × (cause : Cause) × IsRefusal m bytes line cause)

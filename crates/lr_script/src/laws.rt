@@ -2,7 +2,7 @@
 ghost use Rattle.std.specs.Prelude.{◌≡◌, ℕ, ◌++◌, List};
 ghost use Rattle.lr_base.specs.declared.events.Event.{Event};
 ghost use Rattle.lr_base.specs.declared.names.Config.{Config};
-ghost use Rattle.lr_script.specs.Faults.{IsRefusal, IsScriptFault};
+ghost use Rattle.lr_script.specs.Faults.{HasMeaning, IsRefusal, IsScriptFault};
 ghost use Rattle.lr_script.specs.Script.{EventFits, Fits, IsScript, IsSetUp, line_of};
 ghost use Rattle.lr_script.specs.Texts.{event_text};
 ghost use Rattle.lr_script.specs.declared.heading.Header.{Header};
@@ -29,6 +29,12 @@ pub fn scripts_have_one_meaning<S: Service>()
     ensures apart { (bytes : List ℕ) (header : Header) (events : List (Event S.Op))
         (line : ℕ) (cause : Cause) → IsScript S.meaning header events bytes
         → ¬ (IsScriptFault S.meaning bytes (Line line cause)) }
+{}
+
+/// Each input has a meaning: its bytes are the script of a header and events, or have a first bad line. They are only
+/// one of both, since bytes that are refused are no script.
+pub fn every_input_has_a_meaning<S: Service>()
+    ensures { (bytes : List ℕ) → HasMeaning S.meaning bytes }
 {}
 
 /// A line is the text of at most one event, so what is printed of an event can't be read as another.

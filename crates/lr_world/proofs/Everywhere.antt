@@ -1,5 +1,5 @@
 -- Facts about every element of a list, by its index.
-use Rattle.std.proofs.Common.{◌≡◌, ℕ, zero, suc, List, [], ◌∷◌, ◌++◌, length, set, take, Some, None, refl, subst, sym, cond, Bool, true, false, ◌<◌, get_or, ◌∙◌, Option, arith}
+use Rattle.std.proofs.Common.{◌≡◌, ℕ, zero, suc, List, [], ◌∷◌, ◌++◌, length, set, take, Some, None, refl, subst, sym, ◌<◌, get_or, ◌∙◌, Option, arith}
 use Rattle.std.proofs.lemmas.Option.{slice_get_past, slice_get_read}
 use Rattle.std.specs.Prelude.{slice_get}
 use Rattle.std.specs.Option.{ForSome}

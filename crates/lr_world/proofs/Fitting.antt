@@ -1,5 +1,5 @@
 -- What a replica sends may be delivered, as the rules have it.
-use Rattle.std.proofs.Common.{◌≡◌, ◌+◌, ◌<◌, ◌∙◌, ◌==◌, ℕ, suc, Bool, true, false, List, [], ◌∷◌, ◌++◌, length, Option, None, Some, lt-ltb, ltb-true, refl, subst, sym, ap, arith}
+use Rattle.std.proofs.Common.{◌≡◌, ◌+◌, ◌<◌, ◌∙◌, ◌==◌, ℕ, suc, Bool, true, false, List, [], ◌∷◌, length, Option, None, Some, lt-ltb, ltb-true, refl, subst, sym, arith}
 use Rattle.std.specs.Prelude.{find, nat_lt}
 use Rattle.std.specs.Option.{ForSome}
 use Rattle.lr_base.specs.Ascending.{same_cid}
@@ -10,7 +10,6 @@ use Rattle.lr_base.specs.Rules.{CausalState, fresh_of, fresh_when, is_late, know
 use Rattle.lr_base.specs.StampLaws.{length-join, length-set_part}
 use Rattle.lr_base.specs.Stamps.{join, stamp_le}
 use Rattle.lr_base.specs.Steps.{answer_act, call_taken, done_act, gossip_given, has_number, has_room, held_acts, own_taken, query_held, query_taken, update_taken}
-use Rattle.lr_base.specs.declared.acts.Act.{Act}
 use Rattle.lr_base.specs.declared.lr_service.Kind.{Kind}
 use Rattle.lr_base.specs.declared.messages.Call.{Call}
 use Rattle.lr_base.specs.declared.messages.Fresh.{Fresh}
@@ -30,7 +29,7 @@ use Rattle.lr_causal.specs.Causal.{AgainHasParts}
 use Rattle.lr_world.proofs.Shaped.{fitting-append, shaped-plain}
 use Rattle.lr_world.specs.Parts.{IsTask, begun, own_of, settled}
 use Rattle.lr_world.specs.Shapes.{AllFitting, IsFitting, IsShaped}
-use Rattle.lr_world.specs.Sound.{AllAsked, IsAsked, IsSound}
+use Rattle.lr_world.specs.Sound.{AllAsked, IsSound}
 use Rattle.lr_world.specs.declared.task.Task.{Task}
 use Rattle.lr_world.specs.declared.task.Task.TheVariants.{Take, Tell}
 

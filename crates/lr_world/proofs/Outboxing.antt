@@ -1,15 +1,9 @@
 -- What stands in an outbox once a step is done.
 use Rattle.std.proofs.Common.{◌≡◌, ◌+◌, ◌++◌, ℕ, List, [], ◌∷◌, length, refl, sym, ◌∙◌, ap, append-nil, append_assoc, arith, length-append}
-use Rattle.lr_base.specs.Meaning.{Meaning}
-use Rattle.lr_base.specs.Rules.{CausalState}
-use Rattle.lr_base.specs.Stamps.{stamp_le}
-use Rattle.lr_base.specs.Steps.{answer_act, held_acts}
 use Rattle.lr_base.specs.declared.acts.Act.{Act}
 use Rattle.lr_base.specs.declared.acts.Act.TheVariants.{Say, Send}
 use Rattle.lr_base.specs.declared.acts.Posted.{Posted}
-use Rattle.lr_base.specs.declared.events.Outcome.{Outcome}
 use Rattle.lr_base.specs.declared.events.Outcome.TheVariants.{Send as SendLine}
-use Rattle.lr_base.specs.declared.messages.Call.{Call}
 use Rattle.lr_base.specs.declared.names.Actor.{Actor}
 use Rattle.lr_graph.specs.Runs.{act_lines, act_posts, sent_of_message}
 use Rattle.lr_world.specs.Outboxes.{Outboxed, after_act, after_acts, opened}

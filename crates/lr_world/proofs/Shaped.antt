@@ -1,12 +1,10 @@
 -- What is sent may be delivered.
-use Rattle.std.proofs.Common.{◌≡◌, ◌+◌, ◌<◌, ◌∙◌, ℕ, Bool, true, false, List, [], ◌∷◌, ◌++◌, length, not, Option, None, Some, Result, Ok, Err, OnErr, OnOk, lt-ltb, ltb-true, refl, subst, sym, ap, append-nil, append_assoc, arith, get_or}
+use Rattle.std.proofs.Common.{◌≡◌, ◌+◌, ◌<◌, ℕ, Bool, true, false, List, [], ◌∷◌, ◌++◌, length, not, Option, None, Some, Result, Ok, Err, OnErr, OnOk, lt-ltb, refl, subst, sym, ap, append-nil, append_assoc}
 use Rattle.lr_base.specs.Fronts.{FrontState, front_on_call, front_on_message, is_open, message_of, reply_acts}
 use Rattle.lr_base.specs.Kinds.{is_query}
 use Rattle.lr_base.specs.declared.acts.Act.{Act}
 use Rattle.lr_base.specs.declared.acts.Act.TheVariants.{Say, Send}
 use Rattle.lr_base.specs.declared.acts.Posted.{Posted}
-use Rattle.lr_base.specs.declared.events.Outcome.TheVariants.{Refuse}
-use Rattle.lr_base.specs.declared.events.Refusal.TheVariants.{Unfinished, Worn}
 use Rattle.lr_base.specs.declared.lr_service.Kind.{Kind}
 use Rattle.lr_base.specs.declared.lr_service.Kind.TheVariants.{Query, Causal, Forced, Immediate}
 use Rattle.lr_base.specs.declared.messages.Gossip.{Gossip}
@@ -19,7 +17,7 @@ use Rattle.lr_base.specs.declared.names.Config.{Config}
 use Rattle.lr_causal.specs.Causal.{IsGossip}
 use Rattle.lr_causal.specs.GossipLaws.{IsGossip-empty}
 use Rattle.lr_graph.specs.Runs.{act_posts}
-use Rattle.lr_world.proofs.Everywhere.{each-append, each-none, each-push}
+use Rattle.lr_world.proofs.Everywhere.{each-append, each-push}
 use Rattle.lr_world.specs.Posts.{AllPosted, IsPosted}
 use Rattle.lr_world.specs.Shapes.{AllFitting, IsShaped, acks_in, has_client, has_kind, is_actor, stamp_in, updates_in}
 

@@ -1,4 +1,3 @@
-use Rattle.std.proofs.Common.{ap}
 use Rattle.lr_world.proofs.FrontCalls.{on_call-open}
 use Rattle.lr_world.proofs.front_steps.on_call.Goals as goal
 

@@ -1,6 +1,5 @@
-use Rattle.std.proofs.Common.{ap, subst}
-use Rattle.lr_causal.specs.Savepoint.{CanUndo}
-use Rattle.lr_causal.specs.State.{config_of, replica_of, state_of}
+use Rattle.std.proofs.Common.{ap}
+use Rattle.lr_causal.specs.State.{config_of, state_of}
 use Rattle.lr_world.proofs.Answering.{AllAsked-along}
 use Rattle.lr_world.proofs.replica.Replica.on_gossip.Goals as goal
 

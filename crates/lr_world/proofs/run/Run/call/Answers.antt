@@ -1,4 +1,4 @@
-use Rattle.std.proofs.Common.{◌≡◌, ◌<◌, ◌∙◌, Option, ap, lt-ltb, subst, sym}
+use Rattle.std.proofs.Common.{◌<◌, ◌∙◌, Option, ap, lt-ltb, subst, sym}
 use Rattle.lr_base.specs.Fronts.{FrontState}
 use Rattle.lr_base.specs.declared.names.Actor.TheVariants.{Client, Replica}
 use Rattle.lr_graph.specs.Runs.{client_called}

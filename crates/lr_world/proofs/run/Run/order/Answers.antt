@@ -1,4 +1,4 @@
-use Rattle.std.proofs.Common.{◌≡◌, ◌∙◌, ap, lt-ltb, subst, sym}
+use Rattle.std.proofs.Common.{◌∙◌, ap, lt-ltb, subst, sym}
 use Rattle.lr_base.specs.declared.names.Actor.TheVariants.{Replica}
 use Rattle.lr_base.specs.declared.names.Config.{Config}
 use Rattle.lr_graph.specs.Runs.{Stepped}

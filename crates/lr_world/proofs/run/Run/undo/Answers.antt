@@ -1,4 +1,4 @@
-use Rattle.std.proofs.Common.{rules, ◌≡◌, subst, sym}
+use Rattle.std.proofs.Common.{rules, subst, sym}
 use Rattle.lr_causal.specs.Savepoint.{IsPointOf}
 use Rattle.lr_world.proofs.Begun.{begun-point, undone-run}
 use Rattle.lr_world.proofs.Everywhere.{each-take}
