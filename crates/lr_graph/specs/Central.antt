@@ -20,7 +20,7 @@ use Rattle.lr_base.specs.declared.names.Cid.{Cid}
 use Rattle.lr_base.specs.declared.names.Config.{Config}
 use Rattle.lr_base.specs.declared.events.Step.{Step}
 use Rattle.lr_graph.specs.After.{after}
-use Rattle.lr_graph.specs.Closed.{Each, IsSetOf, IsSound, causes}
+use Rattle.lr_graph.specs.Closed.{Each, IsSetOf, IsSound, causes, IsDoneAt}
 use Rattle.lr_graph.specs.Graph.{Acceptance, Carried, Facts, LabelledCall, SentMessage, has_call, kept_spot}
 use Rattle.lr_graph.specs.Graph.{is_within, ready}
 use Rattle.lr_graph.specs.Graph.{UpdateCopy, QueryCopy, DoneReply, AnswerReply, GossipOf}
@@ -90,7 +90,7 @@ abbrev pub CarriesStamp : {Value Op : Type 0} → Config → Facts Op → RunSta
 CarriesStamp config w v (UpdateCopy c t) (Update d time) = IsCallIn config w v c d × (time ≡ t)
 CarriesStamp config w v (QueryCopy c) (Query d) = IsCallIn config w v c d
 CarriesStamp config w v (DoneReply cid names) (Done other spot stamp) =
-    (other ≡ cid) × StandsForSet config w v stamp names
+    (other ≡ cid) × IsDoneAt w.accepted cid spot names × StandsForSet config w v stamp names
 CarriesStamp config w v (AnswerReply cid names) (Answer other text stamp) =
     (other ≡ cid) × StandsForSet config w v stamp names
 CarriesStamp config w v (GossipOf names) (Gossip gossip) = IsGossipIn config w v names gossip
@@ -135,16 +135,24 @@ pub record HasStamps {Value Op : Type 0} (config : Config) (w : Facts Op) (v : R
   pub known : (cid : Cid) (known : Known) → known_of replica.causal.calls cid ≡ Some known
       → IsKnownIn config w v cid known
 
+-- a front end of the run is this client's: it made as many calls as in the facts, shows the same clock and has the same
+-- open call, and its stamp stands for the label
+pub record IsFrontIn {Value Op : Type 0} (config : Config) (w : Facts Op) (v : RunState Value Op)
+    (client : ℕ) (front : FrontState) : Type 0 where
+  pub client_is : front.client ≡ client
+  pub calls : front.calls ≡ (w.front client).calls
+  pub clock : front.clock ≡ (w.front client).clock
+  pub open_call : front.open_call ≡ option_map (λ call. call.cid) (w.front client).open_call
+  pub label : StandsForSet config w v front.label (w.front client).label
+
 -- causes exist and come first, the facts have as many messages as the run sent, each message is that of its number,
--- and each stamp that the run has reached stands for a set: those of replicas, of labels and of messages
+-- and each stamp that the run has reached stands for a set: those of replicas, of front ends and of messages
 pub record IsCentral {Value Op : Type 0} (config : Config) (w : Facts Op) (v : RunState Value Op) : Type 0 where
   pub sound : IsSound w.accepted
   pub replicas : (i : ℕ) → i < config.replicas
       → (replica : ReplicaState Value Op) × (slice_get v.replicas i ≡ Some replica) × HasStamps config w v i replica
-  pub labels : (client : ℕ) → client < config.clients
-      → (front : FrontState)
-      × (slice_get v.fronts client ≡ Some front)
-      × StandsForSet config w v front.label (w.front client).label
+  pub fronts : (client : ℕ) → client < config.clients
+      → (front : FrontState) × (slice_get v.fronts client ≡ Some front) × IsFrontIn config w v client front
   pub count : length w.messages ≡ length v.posted
   pub messages : (n : ℕ) (p : Posted Op) → message_at v.posted n ≡ Some p
       → (x : SentMessage Op)

@@ -2,6 +2,7 @@
 use Rattle.std.specs.Prelude.{◌≡◌, ◌<◌, true, false, not, ◌&&◌, List, [], ◌∷◌}
 use Rattle.std.specs.List.{AllByRecursion}
 use Rattle.lr_base.specs.Orders.{IsAmong}
+use Rattle.lr_base.specs.declared.names.Cid.{Cid}
 use Rattle.lr_base.specs.declared.names.Spot.{Spot}
 use Rattle.lr_graph.specs.Graph.{Acceptance}
 use Rattle.lr_graph.specs.Sets.{SpotSet, same_spot}
@@ -50,3 +51,12 @@ pub record IsSound {Op : Type 0} (accepted : List (Acceptance Op)) : Type 0 wher
 pub record IsSetOf {Op : Type 0} (accepted : List (Acceptance Op)) (x : SpotSet) : Type 0 where
   pub exist : (spot : Spot) → x spot ≡ true → IsAccepted accepted spot
   pub closed : IsClosed accepted x
+
+-- the call was accepted at this spot, and these names are what is below the acceptance
+pub record IsDoneAt {Op : Type 0} (accepted : List (Acceptance Op)) (cid : Cid) (spot : Spot)
+    (names : SpotSet) : Type 0 where
+  pub acceptance : Acceptance Op
+  pub among : IsAmong acceptance accepted
+  pub call : acceptance.cid ≡ cid
+  pub at : acceptance.spot ≡ spot
+  pub below : acceptance.below ≡ names

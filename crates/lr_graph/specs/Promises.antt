@@ -45,15 +45,6 @@ abbrev pub TakesAnswer : {Value Op : Type 0} → Meaning Value Op → Config →
     → Type 0
 TakesAnswer m config before step client cid names = Takes m config before step client cid (AnswerReply cid names)
 
--- the call was accepted at this spot, and these names are what is below the acceptance
-pub record IsDoneAt {Op : Type 0} (accepted : List (Acceptance Op)) (cid : Cid) (spot : Spot)
-    (names : SpotSet) : Type 0 where
-  pub acceptance : Acceptance Op
-  pub among : IsAmong acceptance accepted
-  pub call : acceptance.cid ≡ cid
-  pub at : acceptance.spot ≡ spot
-  pub below : acceptance.below ≡ names
-
 -- the acceptance of this call that a reply with these names stands for is in the set
 pub record HasDoneUpdate {Op : Type 0} (accepted : List (Acceptance Op)) (cid : Cid)
     (names set : SpotSet) : Type 0 where

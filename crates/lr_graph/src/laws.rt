@@ -1,6 +1,7 @@
 //! Laws about legal histories: each function does nothing, and its contract is the law.
-ghost use Rattle.std.specs.Prelude.{◌≡◌, ◌++◌, ◌∷◌, ℕ, [], List, map};
+ghost use Rattle.std.specs.Prelude.{◌≡◌, ◌<◌, ◌++◌, ◌∷◌, ℕ, [], List, Some, map, slice_get};
 ghost use Rattle.lr_base.specs.Events.{IsEventOf};
+ghost use Rattle.lr_base.specs.Replicas.{ReplicaState};
 ghost use Rattle.lr_base.specs.declared.events.Outcome.TheVariants.{Send};
 ghost use Rattle.lr_graph.specs.After.{Handling, line_read};
 ghost use Rattle.lr_graph.specs.Answers.{HasPrintableAnswer};
@@ -52,10 +53,18 @@ pub fn legal_histories_are_one<S: Service>()
 {}
 
 /// After every history that the actors make, each stamp of the run stands for a set of acceptances, what a replica
-/// received is a prefix at each place, and the facts have as many messages as were sent.
+/// received is a prefix at each place, and messages, held queries, logged updates, executed calls and front ends are
+/// those of the facts.
 pub fn stamps_stand_for_sets<S: Service>()
     ensures { (config : Config) (steps : List (Step S.Op)) (run : RunState S S.Op)
         → IsMade S.meaning config steps run → IsCentral config (facts_after S.meaning config first_facts steps) run }
+{}
+
+/// After every history that the actors make, each replica has the value after what is ready there.
+pub fn replicas_have_the_value_of_what_is_ready<S: Service>()
+    ensures { (config : Config) (steps : List (Step S.Op)) (run : RunState S S.Op)
+        → IsMade S.meaning config steps run → (i : ℕ) → i < config.replicas → (replica : ReplicaState S S.Op)
+        → slice_get run.replicas i ≡ Some replica → replica.causal.value ≡ value_after S.meaning config steps i }
 {}
 
 /// A line that tells of a sent message changes the messages and nothing else.

@@ -10,8 +10,9 @@ mod worked;
 
 pub use laws::{
     a_made_history_goes_on, answers_are_printable, every_order_gives_one_value,
-    legal_histories_are_one, ready_is_the_greatest_closed_set, runs_are_legal,
-    sending_changes_the_messages_alone, stamps_stand_for_sets, what_is_made_is_legal,
+    legal_histories_are_one, ready_is_the_greatest_closed_set,
+    replicas_have_the_value_of_what_is_ready, runs_are_legal, sending_changes_the_messages_alone,
+    stamps_stand_for_sets, what_is_made_is_legal,
 };
 pub use listed::{listed_are_the_members, the_least_spot_is_kept};
 pub use promises::{

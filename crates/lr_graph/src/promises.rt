@@ -5,11 +5,12 @@ ghost use Rattle.lr_base.specs.declared.events.Event.TheVariants.{Deliver};
 ghost use Rattle.lr_base.specs.declared.events.Outcome.TheVariants.{Send};
 ghost use Rattle.lr_base.specs.declared.events.Sent.TheVariants.{Answer, Done};
 ghost use Rattle.lr_base.specs.declared.names.Actor.TheVariants.{Client, Replica};
+ghost use Rattle.lr_graph.specs.Closed.{IsDoneAt};
 ghost use Rattle.lr_graph.specs.Graph.{Acceptance, ready, value};
 ghost use Rattle.lr_graph.specs.Legal.{IsLegal};
 ghost use Rattle.lr_graph.specs.Orderings.{FollowsCauses, everything, ready_as_made};
 ghost use Rattle.lr_graph.specs.Promises.{◌⊆◌, CallsUpdate, HasDoneUpdate, HasReceivedAll, HaveReceivedAlike};
-ghost use Rattle.lr_graph.specs.Promises.{IsDoneAt, IsReadAfter, IsRound, TakesAnswer, TakesDone, facts_of};
+ghost use Rattle.lr_graph.specs.Promises.{IsReadAfter, IsRound, TakesAnswer, TakesDone, facts_of};
 ghost use Rattle.lr_graph.specs.Sets.{SpotSet};
 ghost use Rattle.lr_graph.specs.Slow.{value_after};
 

@@ -44,7 +44,7 @@ module _ {Value Op : Type 0} (m : Meaning Value Op) (config : Config) (l : List 
   carried-issued : (received : ℕ → SpotSet) (x : Carried Op) (p : Message Op) → SameCarried m config l received issued calls x p → SameCarried m config l received more after x p
   carried-issued received x p (same_update e f t time call times by update) = same_update e f t time call times (issued-more e by) update
   carried-issued received x p (same_query e f call by) = same_query e f call (issued-more e by)
-  carried-issued received x p (same_done cid other names at stamp cids named set) = same_done cid other names at stamp cids named set
+  carried-issued received x p (same_done cid other names at stamp cids named set done) = same_done cid other names at stamp cids named set done
   carried-issued received x p (same_answer cid other names text stamp cids named set) = same_answer cid other names text stamp cids named set
   carried-issued received x p (same_gossip names g h) = same_gossip names g h
 

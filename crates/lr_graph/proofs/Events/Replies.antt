@@ -131,7 +131,7 @@ module _ {Value Op : Type 0} (m : Meaning Value Op) (config : Config) where
 
     pub front-given : (from : Actor) (what : Carried Op) (message : Message Op) → IsWay from (Client client) what → SameCarried m config w.accepted w.received same.issued (calls_in w) what message
         → Given what (front_on_message message front) (message_lines m config w (Client client) what)
-    front-given from what message way (same_done cid other names spot stamp cids named set) =
+    front-given from what message way (same_done cid other names spot stamp cids named set done) =
         reply (DoneReply cid names) names cid other stamp cids named set (λ number from. refl) (w.front client).open_call front.open_call is.open_call
     front-given from what message way (same_answer cid other names text stamp cids named set) =
         reply (AnswerReply cid names) names cid other stamp cids named set (λ number from. refl) (w.front client).open_call front.open_call is.open_call

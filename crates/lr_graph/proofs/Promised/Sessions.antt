@@ -247,7 +247,7 @@ module _ {Value Op : Type 0} (m : Meaning Value Op) {e : Encoding Value} (kind_o
           → IsReply cid names what → IsSetOf w.accepted names
       by_what what message (same_update c d t time call times by update) is = absurd is
       by_what what message (same_query c d call by) is = absurd is
-      by_what what message (same_done c other x at stamp cids named set) is = subst (IsSetOf w.accepted) is.1 set
+      by_what what message (same_done c other x at stamp cids named set done) is = subst (IsSetOf w.accepted) is.1 set
       by_what what message (same_answer c other x text stamp cids named set) is = subst (IsSetOf w.accepted) is.1 set
       by_what what message (same_gossip x g s) is = absurd is
 

@@ -19,14 +19,14 @@ use Rattle.lr_base.specs.declared.names.Config.{Config}
 use Rattle.lr_base.specs.declared.names.Spot.{Spot}
 use Rattle.lr_graph.specs.After.{accepts, after, causes_of, delivery_of, lines_read, next_call, step_ended, stepping, Handling, handling}
 use Rattle.lr_graph.specs.Central.{facts_after}
-use Rattle.lr_graph.specs.Closed.{Each}
+use Rattle.lr_graph.specs.Closed.{Each, IsDoneAt}
 use Rattle.lr_graph.specs.Graph.{Acceptance, Carried, Facts, LabelledCall, SentMessage, UpdateCopy, QueryCopy}
 use Rattle.lr_graph.specs.Graph.{DoneReply, AnswerReply, GossipOf, Blank, below_of, first_facts, is_within, kept_spot}
 use Rattle.lr_graph.specs.Graph.{made, ready, value}
 use Rattle.lr_graph.specs.Legal.{IsLegal, accept_lines, answer_line, answers, answers_at, call_lines, delivery_lines, copy_lines}
 use Rattle.lr_graph.specs.Legal.{done_line, message_lines, next_number, outcomes_of, own_lines, query_lines}
 use Rattle.lr_graph.specs.Legal.{reply_line, taken_at, update_lines}
-use Rattle.lr_graph.specs.Promises.{IsDoneAt, IsReadAfter, Takes, facts_of}
+use Rattle.lr_graph.specs.Promises.{IsReadAfter, Takes, facts_of}
 use Rattle.lr_graph.specs.Runs.{RunState}
 use Rattle.lr_graph.specs.Sets.{SpotSet, only, ◌∪◌}
 use Rattle.lr_graph.proofs.Lists.Members.{among-right, each-append, each-at, each-map, find-some}

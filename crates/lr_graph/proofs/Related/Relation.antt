@@ -21,7 +21,7 @@ use Rattle.lr_base.specs.declared.names.Actor.TheVariants.{Client, Replica}
 use Rattle.lr_base.specs.declared.names.Cid.{Cid}
 use Rattle.lr_base.specs.declared.names.Config.{Config}
 use Rattle.lr_base.specs.declared.names.Spot.{Spot}
-use Rattle.lr_graph.specs.Closed.{Each, IsAccepted, IsSetOf, IsSound, causes}
+use Rattle.lr_graph.specs.Closed.{Each, IsAccepted, IsSetOf, IsSound, causes, IsDoneAt}
 use Rattle.lr_graph.specs.Graph.{Acceptance, AnswerReply, GossipOf, Carried, DoneReply, Facts, FrontFacts, Kept, LabelledCall, QueryCopy, SentMessage, UpdateCopy, ready}
 use Rattle.lr_graph.specs.Legal.{logged}
 use Rattle.lr_graph.specs.Names.{IsCounted, Names}
@@ -71,7 +71,7 @@ pub record SameGossip {Op : Type 0} (replicas : ℕ) (l : List (Acceptance Op)) 
 pub data SameCarried {Value Op : Type 0} (m : Meaning Value Op) (config : Config) (l : List (Acceptance Op)) (received : ℕ → SpotSet) (issued : Cid → Option (LabelledCall Op)) (calls : ℕ → ℕ) : Carried Op → Message Op → Type 0 where
   same_update : (c : LabelledCall Op) (d : Call Op) (t time : ℕ) → SameCall l c d → t ≡ time → IsIssued config.clients issued calls c → IsUpdate (m.kind c.op) → SameCarried m config l received issued calls (UpdateCopy c t) (Update d time)
   same_query : (c : LabelledCall Op) (d : Call Op) → SameCall l c d → IsIssued config.clients issued calls c → SameCarried m config l received issued calls (QueryCopy c) (Query d)
-  same_done : (cid other : Cid) (names : SpotSet) (spot : Spot) (stamp : List ℕ) → cid ≡ other → Names stamp names → IsSetOf l names → SameCarried m config l received issued calls (DoneReply cid names) (Done other spot stamp)
+  same_done : (cid other : Cid) (names : SpotSet) (spot : Spot) (stamp : List ℕ) → cid ≡ other → Names stamp names → IsSetOf l names → IsDoneAt l cid spot names → SameCarried m config l received issued calls (DoneReply cid names) (Done other spot stamp)
   same_answer : (cid other : Cid) (names : SpotSet) (text stamp : List ℕ) → cid ≡ other → Names stamp names → IsSetOf l names → SameCarried m config l received issued calls (AnswerReply cid names) (Answer other text stamp)
   same_gossip : (names : SpotSet) (g : Gossip Op) → SameGossip config.replicas l received names g → SameCarried m config l received issued calls (GossipOf names) (GossipMessage g)
 

@@ -55,7 +55,7 @@ module _ {Value Op : Type 0} (m : Meaning Value Op) (config : Config) (issued : 
     carried-wider : (x : Carried Op) (p : Message Op) → SameCarried m config w.accepted w.received issued (calls_in w) x p → SameCarried m config w.accepted w1.received issued (calls_in w) x p
     carried-wider x p (same_update e f t time call times by update) = same_update e f t time call times by update
     carried-wider x p (same_query e f call by) = same_query e f call by
-    carried-wider x p (same_done cid its them at stamp cids named set) = same_done cid its them at stamp cids named set
+    carried-wider x p (same_done cid its them at stamp cids named set done) = same_done cid its them at stamp cids named set done
     carried-wider x p (same_answer cid its them text stamp cids named set) = same_answer cid its them text stamp cids named set
     carried-wider x p (same_gossip them g h) = same_gossip them g (record {
       logs = h.logs;

@@ -70,12 +70,19 @@ module _ {Value Op : Type 0} (m : Meaning Value Op) (config : Config) (issued : 
   own-refused why = record { lines = refl; shared = same_posts; mid = unchanged-mid m config w i state shared.sound ok; others = others }
 
   -- a call that was taken before is replied to again
-  pub own-again : (cid : Cid) → cid.client < config.clients → (a : Acceptance Op) → IsAmong a w.accepted → (spot other : Spot) → spot ≡ a.spot → spot ≡ other → (stamp : List ℕ) → Names stamp a.below
+  pub own-again : (cid : Cid) → cid.client < config.clients → (a : Acceptance Op) → IsAmong a w.accepted → a.cid ≡ cid → (spot other : Spot) → spot ≡ a.spot → spot ≡ other → (stamp : List ℕ) → Names stamp a.below
       → IsOwnPart m config issued w v i x (Refuse (Again spot) ∷ done_line w i cid spot ∷ []) (record { state = state; acts = Rattle.lr_base.specs.declared.acts.Act.TheVariants.Say (Refuse (Again other)) ∷ done_act cid other stamp ∷ [] })
-  own-again cid client a member spot other is same stamp names = record {
+  own-again cid client a member named spot other is same stamp names = record {
     lines = λ k. Refuse (Again (same k)) ∷ Send (next_is k) (Replica i) (Client cid.client) (DoneSent cid (same k)) ∷ [];
     shared = message-sent m config issued w v.fronts v.posted shared sent (posting (Replica i) (Client cid.client) (Done cid other stamp)) next_is
-        (record { from = refl; to = refl; way = tt; there = client; what = same_done cid cid (below_of w.accepted spot) other stamp refl (subst (Names stamp) (sym below) names) (subst (λ (y : SpotSet). Rattle.lr_graph.specs.Closed.IsSetOf w.accepted y) (sym below) (below-set w.accepted shared.sound a member)) });
+        (record {
+          from = refl;
+          to = refl;
+          way = tt;
+          there = client;
+          what = same_done cid cid (below_of w.accepted spot) other stamp refl (subst (Names stamp) (sym below) names) (subst (λ (y : SpotSet). Rattle.lr_graph.specs.Closed.IsSetOf w.accepted y) (sym below) (below-set w.accepted shared.sound a member))
+              (record { acceptance = a; among = member; call = named; at = sym is ∙ same; below = sym below });
+        });
     mid = unchanged-mid m config (record w { messages = sent ∷ w.messages }) i state shared.sound ok;
     others = others;
   }

@@ -36,7 +36,7 @@ use Rattle.lr_graph.proofs.Replicas.Receiving.{own-accepted, own-held, spot}
 use Rattle.lr_graph.proofs.Related.Relation.{IsIssued, IsReplicaAt, IsShared, IsTied, IsWay, SameCall, SameCarried, SameList, calls_in, same_answer, same_done, same_gossip, same_query, same_update}
 use Rattle.lr_graph.proofs.Replicas.Stepping.{IsOwnPart}
 use Rattle.lr_graph.proofs.Logs.Tallying.{made-count}
-use Rattle.lr_graph.proofs.Lists.Tests.{never}
+use Rattle.lr_graph.proofs.Lists.Tests.{never, same_cid-is}
 use Rattle.lr_graph.specs.After.{Handling}
 use Rattle.lr_graph.proofs.Handled.{came_in}
 use Rattle.lr_graph.proofs.Histories.Updates.{IsPlain}
@@ -125,7 +125,7 @@ module _ {Value Op : Type 0} (m : Meaning Value Op) (config : Config) (issued : 
         let spots : k.spot ≡ s = cc in
         let a = ok.applied.table.stamps d.cid k e in
         subst (λ (cid : Cid). Part (update_lines config w i c.cid (Some s)) (update_taken i state (record d { cid = cid }) (fresh_when (Some k) None))) same.cid
-        (own-again m config issued w v shared i state ok others (came (UpdateCopy c t)) c.cid is_issued.client a.0 a.1 s k.spot (sym spots ∙ a.2) (sym spots) k.stamp a.4)
+        (own-again m config issued w v shared i state ok others (came (UpdateCopy c t)) c.cid is_issued.client a.0 a.1 (a.3 ∙ sym same.cid) s k.spot (sym spots ∙ a.2) (sym spots) k.stamp a.4)
     own-known None None e f =
         by_found (find (λ u. same_cid u.cid d.cid) state.updates) refl (least_spot w.accepted (logged config w i) c.cid)
         (ap (least_spot w.accepted (logged config w i)) same.cid ∙ least-find w.accepted (logged config w i) state.updates shared.sound ok.log d.cid)
@@ -150,7 +150,7 @@ module _ {Value Op : Type 0} (m : Meaning Value Op) (config : Config) (issued : 
                 let found = find-some (λ u. same_cid u.cid d.cid) state.updates u p in
                 let a = each-at _ u state.updates ok.log.each found.0 in
                 subst (λ (cid : Cid). Part (update_lines config w i c.cid (Some s)) (update_taken i state (record d { cid = cid }) (fresh_when (taken_before None (Some u)) None))) same.cid
-                (own-again m config issued w v shared i state ok others (came (UpdateCopy c t)) c.cid is_issued.client a.0 a.1.among s u.spot (spots ∙ a.1.spot) spots (stamp_of u) (update-stamp w.accepted shared.sound u a.0 a.1))
+                (own-again m config issued w v shared i state ok others (came (UpdateCopy c t)) c.cid is_issued.client a.0 a.1.among (sym a.1.cid ∙ same_cid-is u.cid d.cid found.1 ∙ sym same.cid) s u.spot (spots ∙ a.1.spot) spots (stamp_of u) (update-stamp w.accepted shared.sound u a.0 a.1))
 
     own-update : Part (update_lines config w i c.cid (taken_at config w i c.cid (kept_spot (w.kept i) c.cid))) (update_taken i state d (fresh_of config.delta state d.cid time))
     own-update =
@@ -177,10 +177,10 @@ module _ {Value Op : Type 0} (m : Meaning Value Op) (config : Config) (issued : 
       (own-update m config issued w v shared i here state ok others number (Client f) c d call by update plain t time)
   own-part (Client f) what message way plain (same_query c d call by) = own-query m config issued w v shared i here state ok others number (Client f) c d call by
   own-part (Replica k) what message way plain (same_gossip names g same) = own-taken m config issued w v shared i here state ok others number k way names g same
-  own-part (Client f) what message way plain (same_done cid other names at stamp cids named set) = absurd way
+  own-part (Client f) what message way plain (same_done cid other names at stamp cids named set done) = absurd way
   own-part (Client f) what message way plain (same_answer cid other names text stamp cids named set) = absurd way
   own-part (Client f) what message way plain (same_gossip names g same) = absurd way
   own-part (Replica k) what message way plain (same_update c d t time call times by update) = absurd way
   own-part (Replica k) what message way plain (same_query c d call by) = absurd way
-  own-part (Replica k) what message way plain (same_done cid other names at stamp cids named set) = absurd way
+  own-part (Replica k) what message way plain (same_done cid other names at stamp cids named set done) = absurd way
   own-part (Replica k) what message way plain (same_answer cid other names text stamp cids named set) = absurd way

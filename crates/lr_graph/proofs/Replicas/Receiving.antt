@@ -145,7 +145,8 @@ module _ {Value Op : Type 0} (m : Meaning Value Op) (config : Config) (issued : 
   carried-more : (x : Carried Op) (p : Message Op) → SameCarried m config l w.received issued (calls_in w) x p → SameCarried m config (a ∷ l) w1.received issued (calls_in w) x p
   carried-more x p (same_update e f t time call times by update) = same_update e f t time (call-more l a fresh shared.sound e f call) times by update
   carried-more x p (same_query e f call by) = same_query e f (call-more l a fresh shared.sound e f call) by
-  carried-more x p (same_done cid other names at stamp cids named set) = same_done cid other names at stamp cids named (set-more l a fresh shared.sound names set)
+  carried-more x p (same_done cid other names at stamp cids named set done) = same_done cid other names at stamp cids named (set-more l a fresh shared.sound names set)
+      (record { acceptance = done.acceptance; among = inr done.among; call = done.call; at = done.at; below = done.below })
   carried-more x p (same_answer cid other names text stamp cids named set) = same_answer cid other names text stamp cids named (set-more l a fresh shared.sound names set)
   carried-more x p (same_gossip names g h) = same_gossip names g (record {
     logs = h.logs;
@@ -224,7 +225,14 @@ module _ {Value Op : Type 0} (m : Meaning Value Op) (config : Config) (issued : 
 
   shared_sent : IsShared m config issued (record w1 { messages = sent ∷ w.messages }) v.fronts (v.posted ++ posting (Replica i) (Client d.cid.client) (Done d.cid spot stamp) ∷ [])
   shared_sent = message-sent m config issued w1 v.fronts v.posted shared_accepted sent (posting (Replica i) (Client d.cid.client) (Done d.cid spot stamp)) (let n = shared.count in omega arith)
-      (record { from = refl; to = ap (λ (cid : Cid). Client cid.client) same.cid; way = tt; there = is_issued.client; what = same_done c.cid d.cid (below_of w1.accepted spot) spot stamp same.cid (subst (Names stamp) (sym below_is) stamp_names) (subst (λ (y : SpotSet). IsSetOf (a ∷ l) y) (sym below_is) (below-set (a ∷ l) sound a (inl refl))) })
+      (record {
+        from = refl;
+        to = ap (λ (cid : Cid). Client cid.client) same.cid;
+        way = tt;
+        there = is_issued.client;
+        what = same_done c.cid d.cid (below_of w1.accepted spot) spot stamp same.cid (subst (Names stamp) (sym below_is) stamp_names) (subst (λ (y : SpotSet). IsSetOf (a ∷ l) y) (sym below_is) (below-set (a ∷ l) sound a (inl refl)))
+            (record { acceptance = a; among = inl refl; call = refl; at = refl; below = sym below_is });
+      })
 
   mid_accepted : IsMid m config (record w1 { messages = sent ∷ w.messages }) i after_it
   mid_accepted = record {

@@ -26,6 +26,7 @@ use Rattle.lr_graph.proofs.Sets.ReadySets.{causes-accepted, self-below, update-s
 use Rattle.lr_graph.proofs.Related.Relation.{IsReplicaAt, IsSame, SameCarried, SameHeld, SameList, SameMessage, SameOption, calls_in, same_answer, same_done, same_gossip, same_query, same_update, SameCall}
 use Rattle.lr_graph.proofs.Related.Ties.{IsUpdateOf}
 use Rattle.lr_graph.proofs.Lists.Tests.{and-intro, and-left, and-right, decided, never, not-false, same_spot-is, same_spot-self}
+use Rattle.lr_graph.specs.Slow.{value_in}
 
 module _ {Op : Type 0} where
   -- the greatest number at a place is above each of the set's there
@@ -171,7 +172,7 @@ module _ {Value Op : Type 0} (m : Meaning Value Op) (config : Config) (w : Facts
   carries : (x : Carried Op) (p : Message Op) → SameCarried m config w.accepted w.received same.issued (calls_in w) x p → CarriesStamp config w v x p
   carries x p (same_update c d t time call times by update) = (call-in c d call, sym times)
   carries x p (same_query c d call by) = call-in c d call
-  carries x p (same_done cid other names at stamp cids named set) = (sym cids, stands stamp names named set)
+  carries x p (same_done cid other names at stamp cids named set done) = (sym cids, done, stands stamp names named set)
   carries x p (same_answer cid other names text stamp cids named set) = (sym cids, stands stamp names named set)
   carries x p (same_gossip names g h) = record {
     counted = h.counted;
@@ -206,6 +207,15 @@ module _ {Value Op : Type 0} (m : Meaning Value Op) (config : Config) (w : Facts
     });
   }
 
+  -- a replica's value is that after what is ready there
+  pub same-value : (i : ℕ) → i < config.replicas → (replica : ReplicaState Value Op) → slice_get v.replicas i ≡ Some replica
+      → replica.causal.value ≡ value_in m w i
+  same-value i inside replica there =
+      let tied = same.replicas i inside in
+      let is : Some tied.1.replica ≡ Some replica = sym tied.1.there ∙ there in
+      let one : tied.1.replica ≡ replica = cc in
+      ap (λ (r : ReplicaState Value Op). r.causal.value) (sym one) ∙ ap (λ state. state.value) tied.1.state_is ∙ tied.2.applied.value_is
+
   pub same-central : IsCentral config w v
   same-central = record {
     sound = same.shared.sound;
@@ -214,7 +224,17 @@ module _ {Value Op : Type 0} (m : Meaning Value Op) (config : Config) (w : Facts
       tied.1.there,
       has-stamps i tied.1.replica (subst (λ state. IsReplicaAt m config w.accepted (w.received i) (logged config w i) (w.kept i) (w.held i) state) (sym tied.1.state_is) tied.2),
     ));
-    labels = λ client inside. (let f = same.shared.fronts_are client inside in (f.0, f.1, stands f.0.label (w.front client).label f.2.names f.2.set));
+    fronts = λ client inside. (let f = same.shared.fronts_are client inside in (
+      f.0,
+      f.1,
+      record {
+        client_is = f.2.client_is;
+        calls = sym f.2.calls;
+        clock = sym f.2.clock;
+        open_call = sym f.2.open_call;
+        label = stands f.0.label (w.front client).label f.2.names f.2.set;
+      },
+    ));
     count = same.shared.count;
     messages = λ n p there. by_found n p (find (λ y. y.number == n) w.messages) refl (subst (λ o. SameOption (SameMessage m config w.accepted w.received same.issued (calls_in w)) (find (λ y. y.number == n) w.messages) o) there (same.shared.messages n));
   }
