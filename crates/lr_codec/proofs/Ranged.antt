@@ -37,7 +37,7 @@ module _ {V Op : Type 0} (m : Meaning V Op) (e : Encoding V) where
   ranged-items replicas rep_ts last (Update u ∷ items) may =
       let parts = and_parts _ _ may in
       let own : m.is_op u.op ≡ true =
-        (and_parts _ _ (and_parts _ _ (and_parts _ _ (and_parts _ _ parts.0).1).1).1).0 in
+      (and_parts _ _ (and_parts _ _ (and_parts _ _ (and_parts _ _ parts.0).1).1).1).0 in
       and_from _ _ (rw own at parts.0) (ranged-items replicas rep_ts (Some (Update u)) items parts.1)
   ranged-items replicas rep_ts last (Ack a ∷ items) may =
       let parts = and_parts _ _ may in
@@ -62,7 +62,7 @@ module _ {V Op : Type 0} (m : Meaning V Op) (e : Encoding V) where
   ranged-frozen parts opened received order None may = refl
   ranged-frozen parts opened received order (Some numbered) may =
       let own : m.is_op numbered.1.op ≡ true =
-        (and_parts _ _ (and_parts _ _ (and_parts _ _ (and_parts _ _ (and_parts _ _ may).1).1).1).1).0 in
+      (and_parts _ _ (and_parts _ _ (and_parts _ _ (and_parts _ _ (and_parts _ _ may).1).1).1).1).0 in
       rw own at may
 
   -- and the log

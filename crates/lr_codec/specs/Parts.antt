@@ -44,6 +44,7 @@ sized next size bytes = if nat_lt (length bytes) size then Wrong (length bytes) 
     else next bytes (take size bytes) (drop size bytes)
 
 -- an operation that is an update
+-- for example: not a query
 abbrev pub is_update : Kind → Bool
 is_update kind = not (is_query kind)
 

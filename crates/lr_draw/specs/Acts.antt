@@ -12,6 +12,7 @@ use Rattle.lr_draw.specs.declared.acts.Word.TheVariants.{Tick, View, Drive, Fail
 use Rattle.lr_draw.specs.Fields.{first_field, behind_field, IsNumberBelow, IsNoneBelow}
 
 -- how an event's word is written
+-- for example: `deliver`
 abbrev pub word_text : Word → List ℕ
 word_text Deliver = codes "deliver"
 word_text Call = codes "call"
@@ -27,6 +28,7 @@ word_text HalfSave = codes "halfsave"
 word_text Show = codes "show"
 
 -- no word of an event that happens at a replica is written so
+-- for example: `call`
 pub record IsNoReplicaWord (field : List ℕ) : Type 0 where
   pub tick : field ≢ word_text Tick
   pub view : field ≢ word_text View
@@ -56,6 +58,7 @@ IsPlace Restart fields actor = ⊥
 IsPlace _ fields actor = IsReplica fields actor
 
 -- what an event with this word, and these fields behind it, says
+-- for example: `deliver 3`
 abbrev pub IsActBy : Word → List ℕ → Act → Type 0
 IsActBy word fields (Delivery message) = (word ≡ Deliver) × (fields ≡ decimal message)
 IsActBy word fields (At actor) = IsPlace word fields actor
@@ -66,6 +69,7 @@ IsActBy word fields (Gossips from to) =
 IsActBy word fields Elsewhere = ⊥
 
 -- what stands behind the word is no number in its range
+-- for example: not `deliver x`
 abbrev pub IsNoActBy : Word → List ℕ → Type 0
 IsNoActBy Deliver fields = IsNoneBelow (2 ^ 64) fields
 IsNoActBy Call fields = IsNoneBelow 64 (first_field fields)
@@ -75,6 +79,7 @@ IsNoActBy Gossip fields = IsNoneBelow 15 (first_field fields) ⊎ IsNoneBelow 15
 IsNoActBy _ fields = IsNoneBelow 15 (first_field fields)
 
 -- the text begins with an event's word, and this is what it says
+-- for example: `look 0 0 read x`
 pub record IsKnownAct (text : List ℕ) (act : Act) : Type 0 where
   pub word : Word
   pub first : first_field text ≡ word_text word

@@ -3,6 +3,7 @@ use Rattle.std.specs.Prelude.{◌≢◌, ◌==◌, ℕ, cond, List, [], ◌∷�
 use Rattle.std.specs.List.{flat_map}
 
 -- a byte, or its escape where it could end a text or begin another thing
+-- for example: `&lt
 abbrev pub escaped_byte : ℕ → List ℕ
 escaped_byte byte =
     cond (byte == 60) (codes "&lt;")
@@ -12,6 +13,7 @@ escaped_byte byte =
     (cond (byte == 39) (codes "&#39;") (byte ∷ [])))))
 
 -- each byte or its escape
+-- for example: `
 abbrev pub escaped : List ℕ → List ℕ
 escaped text = flat_map escaped_byte text
 

@@ -13,6 +13,7 @@ behind_space text None = []
 behind_space text (Some end) = drop (end + 1) text
 
 -- a text's first field
+-- for example: `call` and `0 0 5 read x`
 abbrev pub first_field : List ℕ → List ℕ
 first_field text = before_space text (position (λ byte. byte == 32) text)
 
@@ -21,9 +22,11 @@ abbrev pub behind_field : List ℕ → List ℕ
 behind_field text = behind_space text (position (λ byte. byte == 32) text)
 
 -- this number below the limit is written so
+-- for example: `12`
 abbrev pub IsNumberBelow : ℕ → ℕ → List ℕ → Type 0
 IsNumberBelow limit number text = (text ≡ decimal number) × (number < limit)
 
 -- no number below the limit is written so
+-- for example: not `012`
 abbrev pub IsNoneBelow : ℕ → List ℕ → Type 0
 IsNoneBelow limit text = (number : ℕ) → number < limit → text ≢ decimal number

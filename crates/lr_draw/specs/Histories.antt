@@ -15,6 +15,7 @@ use Rattle.lr_draw.specs.Lines.{IsNoLine, line_of}
 use Rattle.lr_draw.specs.Sends.{IsWay, IsNoWay}
 
 -- what stands before an event's text in its line
+-- for example: `3: `, `  send 2 `
 abbrev pub event_front : ℕ → List ℕ
 event_front number = decimal number ++ codes ": "
 
@@ -55,6 +56,7 @@ IsLine place line Said = IsSaidLine place line
 -- a line that can't stand behind those before it: it begins with neither two spaces nor the next event's number; or
 -- what stands there is no event's; or it tells what was done where there is no event; or what it says of a message
 -- isn't so
+-- for example: `5: show 0` behind event 3
 pub data IsBadLine (place : Place) (line : List ℕ) : Type 0 where
   no_front : ((rest : List ℕ) → line ≢ codes "  " ++ rest)
       → ((text : List ℕ) → line ≢ event_front (place.events + 1) ++ text) → IsBadLine place line

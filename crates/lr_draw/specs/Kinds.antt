@@ -5,6 +5,7 @@ use Rattle.lr_draw.specs.declared.kinds.Kind.TheVariants.{Update, Query, Ack, Do
 use Rattle.lr_draw.specs.declared.kinds.Kind.TheVariants.{Prepare, Prepared, Freeze, Frozen, Other}
 
 -- a kind's name
+-- for example: `gossip`
 abbrev pub kind_name : Kind → List ℕ
 kind_name Update = codes "update"
 kind_name Query = codes "query"
@@ -25,6 +26,7 @@ abbrev pub IsNamed : List ℕ → Kind → Type 0
 IsNamed word kind = kind ≢ Other → word ≡ kind_name kind
 
 -- no kind of those that only replicas send for themselves has this name
+-- for example: `update`
 pub record IsNoReplicasKind (word : List ℕ) : Type 0 where
   pub ask : word ≢ kind_name Ask
   pub give : word ≢ kind_name Give

@@ -4,6 +4,7 @@ use Rattle.std.specs.Prelude.{Some, List, [], ◌∷◌, ◌++◌, slice_index, 
 use Rattle.lr_draw.specs.declared.history.Span.{Span}
 
 -- whether a byte is outside those from the space to the tilde
+-- for example: a line feed
 abbrev pub is_odd : ℕ → Bool
 is_odd byte = not (nat_le 32 byte && nat_le byte 126)
 

@@ -4,10 +4,12 @@ use Rattle.lr_base.specs.declared.names.Actor.{Actor}
 use Rattle.lr_base.specs.declared.names.Actor.TheVariants.{Client, Replica}
 
 -- the column of an event, where the first drawn one has this number; all before it stand at the edge
+-- for example: 72 for the first
 abbrev pub x_of : ℕ → ℕ → ℕ
 x_of first event = cond (nat_lt event first) 44 (72 + 30 * (event - first))
 
 -- whether two actors are one
+-- for example: 84 for the first
 abbrev pub same_actor : Actor → Actor → Bool
 same_actor (Client a) (Client b) = a == b
 same_actor (Client a) (Replica b) = false

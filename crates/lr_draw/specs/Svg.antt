@@ -60,6 +60,7 @@ unfoldable pub title_text : List ℕ → List ℕ
 title_text text = codes "<title>" ++ (escaped text ++ codes "</title>")
 
 -- the name of a class
+-- for example: `c0`, `3 done`
 abbrev pub class_name : Class → List ℕ
 class_name Lane = codes "lane"
 class_name Broken = codes "broken"

@@ -11,6 +11,7 @@ use Rattle.lr_draw.specs.declared.history.Range.{Range}
 use Rattle.lr_draw.specs.Ends.{DrawEnded, DrawMeans}
 
 -- two words are the numbers of the first and of the last event
+-- for example: `draw 3 9`
 pub record AreNumbers (first last : List ℕ) (range : Range) : Type 0 where
   pub first_is : first ≡ decimal range.first
   pub last_is : last ≡ decimal range.last
@@ -37,6 +38,7 @@ abbrev pub usage_text : List ℕ
 usage_text = text_line (codes "usage: draw [FIRST LAST]")
 
 -- the exit status of a drawing's end
+-- for example: 3, `draw: line 4`
 abbrev pub code_of : DrawEnd → ℕ
 code_of Done = 0
 code_of (Line number) = 3

@@ -1,4 +1,5 @@
--- How the facts of a history change: by each event, and by each line that is printed of it.
+-- To be believed: how the facts of a history change: by each event, and by each line that is printed of it. How the
+-- facts change by an event, and by each line that is printed of it.
 use Rattle.std.specs.Prelude.{ℕ, suc, ◌^◌, ◌==◌, max, Bool, true, false, not, Option, Some, None}
 use Rattle.std.specs.Prelude.{List, [], ◌∷◌, ◌++◌, filter, find}
 use Rattle.lr_base.specs.Meaning.{Meaning}
@@ -20,6 +21,7 @@ use Rattle.lr_graph.specs.Graph.{below_of, is_within, keep_new, ready}
 use Rattle.lr_graph.specs.Sets.{SpotSet, nothing, only, put_at, ◌∪◌}
 
 -- the next call of a front end, with the label that it has
+-- for example: `0.2` after one call
 abbrev pub next_call : {Op : Type 0} → ℕ → FrontFacts Op → Op → LabelledCall Op
 next_call client front op = record {
   cid = record { client = client; seq = suc front.calls };
@@ -28,6 +30,7 @@ next_call client front op = record {
 }
 
 -- a call's reading counts in any case, and the call opens where none is open and a number is left
+-- for example: reading 5: clock 5, and `0.1` is open
 abbrev pub call_read : {Op : Type 0} → ℕ → ℕ → Op → FrontFacts Op → Option (LabelledCall Op) → Bool → FrontFacts Op
 call_read client reading op front (Some call) worn = record front { clock = max front.clock reading }
 call_read client reading op front None true = record front { clock = max front.clock reading }
@@ -38,6 +41,7 @@ call_read client reading op front None false = record front {
 }
 
 -- the facts after an event, before its lines are read: a call is made
+-- for example: `0.1` is open before its `send` line is read
 abbrev pub event_read : {Op : Type 0} → Facts Op → Event Op → Facts Op
 event_read w (Call client replica reading op) =
     let front = w.front client in
@@ -48,6 +52,7 @@ event_read w (GossipEvent from to) = w
 event_read w (Show replica) = w
 
 -- the message that an event delivers
+-- for example: of `deliver 1`, the copy of `0.1`; of `show 0`, none
 abbrev pub delivery_of : {Op : Type 0} → Facts Op → Event Op → Option (SentMessage Op)
 delivery_of w (Call client replica reading op) = None
 delivery_of w (Deliver message) = find (λ x. x.number == message) w.messages
@@ -55,6 +60,7 @@ delivery_of w (GossipEvent from to) = None
 delivery_of w (Show replica) = None
 
 -- the replica that an actor is
+-- for example: 0 of `r0`; none of `c0`
 abbrev pub replica_of : Actor → Option ℕ
 replica_of (Replica i) = Some i
 replica_of (Client client) = None
@@ -77,6 +83,7 @@ acting w (GossipEvent from to) = Some (Replica from)
 acting w (Show replica) = None
 
 -- the replica that an event is a step of, if it is a replica's
+-- for example: 0 of `deliver 1` and of `gossip 0 1`; none of `deliver 2` and of `show 0`
 abbrev pub stepping : {Op : Type 0} → Facts Op → Event Op → Option ℕ
 stepping w event = replica_in (acting w event)
 
@@ -90,6 +97,7 @@ abbrev pub handling : {Op : Type 0} → Facts Op → Event Op → Handling Op
 handling w event = record { actor = acting w event; came = delivery_of w event }
 
 -- the causes of a causal update: what its label names
+-- for example: nothing for `0.1`
 abbrev pub causes_of : {Op : Type 0} → LabelledCall Op → SpotSet
 causes_of call = call.label
 
@@ -99,16 +107,19 @@ copy_of None copy = Blank
 copy_of (Some call) copy = copy call
 
 -- what is ready at an actor: nothing at a front end
+-- for example: `0:1` at `r0` after the addition
 abbrev pub ready_at : {Op : Type 0} → Facts Op → Actor → SpotSet
 ready_at w (Replica i) = ready w.accepted (w.received i)
 ready_at w (Client client) = nothing
 
 -- what is received at an actor: nothing at a front end
+-- for example: `0:1` at `r0` after the addition
 abbrev pub received_at : {Op : Type 0} → Facts Op → Actor → SpotSet
 received_at w (Replica i) = w.received i
 received_at w (Client client) = nothing
 
 -- what a message carries that is sent now: its client's open call, what a reply stands for, or what a replica received
+-- for example: `done 0.1 as 0:1` carries what is below `0:1`
 abbrev pub carried : {Op : Type 0} → Facts Op → Actor → Sent → Carried Op
 carried w from (Update cid time) = copy_of (w.front cid.client).open_call (λ call. UpdateCopy call time)
 carried w from (Query cid) = copy_of (w.front cid.client).open_call QueryCopy
@@ -117,6 +128,7 @@ carried w from (Answer cid text) = AnswerReply cid (ready_at w from)
 carried w from Gossip = GossipOf (received_at w from)
 
 -- a replica accepts a call: it receives the new acceptance
+-- for example: after `accept 0:1 0.1`, `r0` received `0:1`
 abbrev pub accepts : {Op : Type 0} → Facts Op → ℕ → Spot → LabelledCall Op → Facts Op
 accepts w i spot call = record w {
   accepted = record { spot = spot; cid = call.cid; op = call.op; below = causes_of call ∪ only spot } ∷ w.accepted;
@@ -124,28 +136,33 @@ accepts w i spot call = record w {
 }
 
 -- a front end takes the reply to its open call: its label names what the reply stands for
+-- for example: after `got 0.1` the label names `0:1`
 abbrev pub takes_reply : {Op : Type 0} → Facts Op → ℕ → SpotSet → Facts Op
 takes_reply w client names =
     let front = w.front client in
     record w { front = put_at client (record front { label = front.label ∪ names; open_call = None }) w.front }
 
 -- the facts after `accept`: a replica that an update came to accepts its call
+-- for example: `accept 0:1 0.1`
 abbrev pub accept_read : {Op : Type 0} → Facts Op → Spot → Actor → Carried Op → Facts Op
 accept_read w spot (Replica i) (UpdateCopy call time) = accepts w i spot call
 accept_read w spot _ _ = w
 
 -- the facts after `hold`: a replica that a query came to holds it behind the others
+-- for example: `hold 0.2`
 abbrev pub hold_read : {Op : Type 0} → Facts Op → Actor → Carried Op → Facts Op
 hold_read w (Replica i) (QueryCopy call) = record w { held = put_at i (w.held i ++ call ∷ []) w.held }
 hold_read w _ _ = w
 
 -- the facts after `got`: a front end that a reply came to takes it
+-- for example: `got 0.1`
 abbrev pub got_read : {Op : Type 0} → Facts Op → Actor → Carried Op → Facts Op
 got_read w (Client client) (DoneReply cid names) = takes_reply w client names
 got_read w (Client client) (AnswerReply cid names) = takes_reply w client names
 got_read w _ _ = w
 
 -- the facts after `take`: a replica that gossip came to receives what it carries
+-- for example: after `take 1`, `r1` received `0:1`
 abbrev pub take_read : {Op : Type 0} → Facts Op → Actor → Carried Op → Facts Op
 take_read w (Replica i) (GossipOf names) = record w { received = put_at i (w.received i ∪ names) w.received }
 take_read w _ _ = w
@@ -157,6 +174,7 @@ with_message w None change = w
 with_message w (Some x) change = change x.to x.what
 
 -- the facts after a line of such a step: all but these five change nothing
+-- for example: `stale 0.1` changes nothing
 abbrev pub line_read : {Value Op : Type 0} → Meaning Value Op → Config → Handling Op → Facts Op → Outcome → Facts Op
 line_read m config x w (Send number from to what) =
     record w { messages = record { number = number; from = from; to = to; what = carried w from what } ∷ w.messages }
@@ -176,6 +194,7 @@ lines_read m config x w [] = w
 lines_read m config x w (line ∷ lines) = lines_read m config x (line_read m config x w line) lines
 
 -- at the end of a replica's step its answered queries are held no more, and it keeps a spot of each call that got ready
+-- for example: `r0` keeps `0:1` of `0.1`
 abbrev pub end_read : {Op : Type 0} → Facts Op → ℕ → Facts Op
 end_read w i = record w {
   held = put_at i (filter (λ call. not (is_within w.accepted call.label (w.received i))) (w.held i)) w.held;
@@ -183,6 +202,7 @@ end_read w i = record w {
 }
 
 -- the facts at the end of a step of this replica, if it is a replica's
+-- for example: a call's step ends with nothing more
 abbrev pub step_ended : {Value Op : Type 0} → Meaning Value Op → Config → Option ℕ → Facts Op → Facts Op
 step_ended m config None w = w
 step_ended m config (Some i) w = end_read w i

@@ -1,4 +1,6 @@
 -- What stamps stand for in a run: the sets of acceptances that they name.
+-- What stamps stand for in a run. The contract of `stamps_stand_for_sets` says that `IsCentral` holds after every
+-- history that is made. In the examples `0:1` was accepted, and then `1:1` with the cause `0:1`.
 use Rattle.std.specs.Prelude.{◌≡◌, ◌<◌, ℕ, find, length, ◌&&◌, ◌==◌, max, if◌then◌else◌, List, [], ◌∷◌, Some, is_some}
 use Rattle.std.specs.List.{slice_get}
 use Rattle.std.specs.Option.{option_map}
@@ -29,11 +31,13 @@ use Rattle.lr_graph.specs.Runs.{RunState, message_at}
 use Rattle.lr_graph.specs.Sets.{SpotSet}
 
 -- the facts after a history
+-- for example: `first_facts` after no step
 abbrev pub facts_after : {Value Op : Type 0} → Meaning Value Op → Config → Facts Op → List (Step Op) → Facts Op
 facts_after m config w [] = w
 facts_after m config w (step ∷ steps) = facts_after m config (after m config w step) steps
 
 -- the greatest number that a set has at a place, or 0 where it has none
+-- for example: 1 at place 0 of what is below `1:1`
 abbrev pub greatest : {Op : Type 0} → List (Acceptance Op) → SpotSet → ℕ → ℕ
 greatest [] x place = 0
 greatest (a ∷ accepted) x place =
@@ -43,6 +47,7 @@ greatest (a ∷ accepted) x place =
 
 -- the join of the stamps of a set's acceptances, at a place;
 -- the stamp of an acceptance has the greatest numbers of what is below it
+-- for example: of `only 1:1`: 1 at place 0 and 1 at place 1
 abbrev pub joined : {Op : Type 0} → List (Acceptance Op) → List (Acceptance Op) → SpotSet → ℕ → ℕ
 joined all [] x place = 0
 joined all (a ∷ accepted) x place =
@@ -52,6 +57,7 @@ joined all (a ∷ accepted) x place =
 
 -- a stamp stands for a set that has all its causes: it is the join of the stamps of the set's acceptances,
 -- and is at most the value's stamp of each replica exactly where the set was received there
+-- for example: `[1, 1, 0]` stands for `0:1`, `1:1`
 pub record StandsForSet {Value Op : Type 0} (config : Config) (w : Facts Op) (v : RunState Value Op)
     (stamp : List ℕ) (x : SpotSet) : Type 0 where
   pub set : IsSetOf w.accepted x
@@ -62,6 +68,7 @@ pub record StandsForSet {Value Op : Type 0} (config : Config) (w : Facts Op) (v 
 
 -- a logged update is that of an acceptance, of its call and its operation: its causes' stamp and its own stand for
 -- their sets
+-- for example: causes `[1, 0, 0]` of `1:1`
 pub record IsUpdateIn {Value Op : Type 0} (config : Config) (w : Facts Op) (v : RunState Value Op)
     (u : LogUpdate Op) : Type 0 where
   pub of : Acceptance Op
@@ -86,6 +93,7 @@ pub record IsGossipIn {Value Op : Type 0} (config : Config) (w : Facts Op) (v : 
   pub updates : Each (IsUpdateIn config w v) gossip.updates
 
 -- what a message of the run has is what this one of the facts carries: of the same call, with a stamp for its set
+-- for example: the label of a copy of `0.2`
 abbrev pub CarriesStamp : {Value Op : Type 0} → Config → Facts Op → RunState Value Op → Carried Op → Message Op → Type 0
 CarriesStamp config w v (UpdateCopy c t) (Update d time) = IsCallIn config w v c d × (time ≡ t)
 CarriesStamp config w v (QueryCopy c) (Query d) = IsCallIn config w v c d
@@ -104,6 +112,7 @@ pub record IsMessageIn {Value Op : Type 0} (config : Config) (w : Facts Op) (v :
   pub what : CarriesStamp config w v x.what p.message
 
 -- a held query is one that the facts hold there
+-- for example: `0.3` at `r2`
 pub record IsHeldIn {Value Op : Type 0} (config : Config) (w : Facts Op) (v : RunState Value Op)
     (i : ℕ) (d : Call Op) : Type 0 where
   pub of : LabelledCall Op
@@ -121,6 +130,7 @@ pub record IsKnownIn {Value Op : Type 0} (config : Config) (w : Facts Op) (v : R
 
 -- what a replica received of each place is a prefix of its numbers, its stamps stand for sets, and its table has just
 -- the calls of what is ready, each once, at the spots that the facts keep of them
+-- for example: at `r1` `[0, 1, 0]` counts `1:1`, and nothing is ready
 pub record HasStamps {Value Op : Type 0} (config : Config) (w : Facts Op) (v : RunState Value Op)
     (i : ℕ) (replica : ReplicaState Value Op) : Type 0 where
   pub prefixes : IsCounted (w.received i) replica.causal.rep_ts

@@ -1,4 +1,4 @@
--- Which outcomes an event may have, and which histories are legal.
+-- To be believed: which outcomes an event may have, and which histories are legal.
 use Rattle.std.specs.Prelude.{◌≡◌, ◌^◌, ℕ, suc, ◌==◌, nat_lt, max, Bool, true, false, ◌&&◌, not, if◌then◌else◌}
 use Rattle.std.specs.Prelude.{List, [], ◌∷◌, ◌++◌, length, map, Option, Some, None}
 use Rattle.lr_base.specs.Ascending.{same_cid}
@@ -26,19 +26,23 @@ use Rattle.lr_graph.specs.Graph.{ready, size_of, spots_of, value}
 use Rattle.lr_graph.specs.Sets.{SpotSet}
 
 -- the number of the next message
+-- for example: 3 after two messages
 abbrev pub next_number : {Op : Type 0} → Facts Op → ℕ
 next_number w = suc (length w.messages)
 
 -- what a replica still logs: what it received and others may lack; a lone replica logs nothing
+-- for example: nothing with `small`
 abbrev pub logged : {Op : Type 0} → Config → Facts Op → ℕ → SpotSet
 logged config w i spot = not (config.replicas == 1) && w.received i spot
 
 -- where a replica took a call before: at the spot that it keeps of the call, or else the least one that it logs
+-- for example: `0:1` for a second copy of `0.1`
 abbrev pub taken_at : {Op : Type 0} → Config → Facts Op → ℕ → Cid → Option Spot → Option Spot
 taken_at config w i cid (Some spot) = Some spot
 taken_at config w i cid None = least_spot w.accepted (logged config w i) cid
 
 -- a call is sent where none is open and a number is left
+-- for example: `send 1 c0 r0 update 0.1 at 5`; `refuse open 0.1`
 abbrev pub call_lines : {Value Op : Type 0} → Meaning Value Op → Facts Op → ℕ → ℕ → ℕ → Op
     → Option (LabelledCall Op) → Bool → List Outcome
 call_lines m w client replica clock op (Some call) worn = Refuse (Unfinished call.cid) ∷ []
@@ -49,11 +53,13 @@ call_lines m w client replica clock op None false =
     Send (next_number w) (Client client) (Replica replica) what ∷ []
 
 -- the reply to an update
+-- for example: `send 2 r0 c0 done 0.1 as 0:1`
 abbrev pub done_line : {Op : Type 0} → Facts Op → ℕ → Cid → Spot → Outcome
 done_line w i cid spot = Send (next_number w) (Replica i) (Client cid.client) (Done cid spot)
 
 -- a new update is refused where the log is full or the place's numbers are used up,
 -- and else takes the place's next spot
+-- for example: `accept 0:1 0.1` and its reply
 abbrev pub accept_lines : {Op : Type 0} → Facts Op → ℕ → Cid → Bool → Bool → List Outcome
 accept_lines w i cid false number = Refuse FullLog ∷ []
 accept_lines w i cid true false = Refuse Worn ∷ []
@@ -62,18 +68,21 @@ accept_lines w i cid true true =
     Accept spot cid ∷ done_line w i cid spot ∷ []
 
 -- an update that was taken before is replied to again
+-- for example: a second copy of `0.1` is refused with `0:1`, and replied to
 abbrev pub update_lines : {Op : Type 0} → Config → Facts Op → ℕ → Cid → Option Spot → List Outcome
 update_lines config w i cid (Some spot) = Refuse (Again spot) ∷ done_line w i cid spot ∷ []
 update_lines config w i cid None =
     accept_lines w i cid (nat_lt (size_of w.accepted (logged config w i)) 512) (nat_lt (made w.accepted i) (2 ^ 62))
 
 -- the answer to a query: what the service reads after just what is ready
+-- for example: the answer 3 to `0.2`
 abbrev pub answer_line : {Value Op : Type 0} → Meaning Value Op → Facts Op → ℕ → ℕ → LabelledCall Op → Outcome
 answer_line m w number i call =
     let after = value m w.accepted (ready w.accepted (w.received i)) in
     Send number (Replica i) (Client call.cid.client) (Answer call.cid (m.read after call.op))
 
 -- a query is answered where all that its label names is received, and else held while there is room
+-- for example: `hold 0.2` where `0:1` isn't received
 abbrev pub query_lines : {Value Op : Type 0} → Meaning Value Op → Facts Op → ℕ → LabelledCall Op → Bool → Bool
     → List Outcome
 query_lines m w i call true room = answer_line m w (next_number w) i call ∷ []
@@ -81,11 +90,13 @@ query_lines m w i call false true = Hold call.cid ∷ []
 query_lines m w i call false false = Refuse FullHeld ∷ []
 
 -- a reply is taken by the call that is open, if it is that call's
+-- for example: `got 0.1`; `stale 0.1` when it comes again
 abbrev pub reply_line : {Op : Type 0} → Option (LabelledCall Op) → Cid → Outcome
 reply_line None cid = Stale cid
 reply_line (Some call) cid = if same_cid call.cid cid then Got cid else Stale cid
 
 -- gossip is taken: so many of the acceptances that it carries weren't received before
+-- for example: `take 1`, and `take 0` when it comes again
 abbrev pub take_line : {Op : Type 0} → Facts Op → ℕ → SpotSet → Outcome
 take_line w i names = Take (size_of w.accepted (λ spot. names spot && not (w.received i spot)))
 
@@ -96,6 +107,7 @@ copy_lines config w i call true =
     update_lines config w i call.cid (taken_at config w i call.cid (kept_spot (w.kept i) call.cid))
 
 -- a message comes to an actor: what has no rule there changes nothing
+-- for example: a reply at a replica
 abbrev pub message_lines : {Value Op : Type 0} → Meaning Value Op → Config → Facts Op → Actor → Carried Op
     → List Outcome
 message_lines m config w (Replica i) (UpdateCopy call time) = copy_lines config w i call (has_rules (m.kind call.op))
@@ -107,12 +119,14 @@ message_lines m config w (Client client) (AnswerReply cid names) = reply_line (w
 message_lines m config w _ _ = []
 
 -- a message is delivered, where one of this number was sent
+-- for example: `none 7` after two messages
 abbrev pub delivery_lines : {Value Op : Type 0} → Meaning Value Op → Config → Facts Op → ℕ
     → Option (SentMessage Op) → List Outcome
 delivery_lines m config w number None = NoMessage number ∷ []
 delivery_lines m config w number (Some x) = message_lines m config w x.to x.what
 
 -- what is printed of a replica
+-- for example: `[1, 0]`, no log, the call `0.1`
 abbrev pub replica_line : {Op : Type 0} → Config → Facts Op → ℕ → StateLine
 replica_line config w i = record {
   replica = i;
@@ -127,6 +141,7 @@ replica_line config w i = record {
 }
 
 -- what an event itself does
+-- for example: `send 4 r0 r1 gossip`
 abbrev pub own_lines : {Value Op : Type 0} → Meaning Value Op → Config → Facts Op → Event Op → List Outcome
 own_lines m config w (Call client replica reading op) =
     let front = w.front client in
@@ -136,6 +151,7 @@ own_lines m config w (GossipEvent from to) = Send (next_number w) (Replica from)
 own_lines m config w (Show replica) = State (replica_line config w replica) ∷ []
 
 -- each held query whose label is now received is answered, in the order of arrival
+-- for example: `0.2` once `0:1` is received
 abbrev pub answers : {Value Op : Type 0} → Meaning Value Op → Facts Op → ℕ → ℕ → List (LabelledCall Op) → List Outcome
 answers m w number i [] = []
 answers m w number i (call ∷ calls) =
@@ -144,11 +160,13 @@ answers m w number i (call ∷ calls) =
     else answers m w number i calls
 
 -- the held queries that are answered at the end of a step of this replica, if it is a replica's
+-- for example: none after `show 0`
 abbrev pub answers_at : {Value Op : Type 0} → Meaning Value Op → Facts Op → Option ℕ → List Outcome
 answers_at m w None = []
 answers_at m w (Some i) = answers m w (next_number w) i (w.held i)
 
 -- the only outcomes that an event may have
+-- for example: `got 0.1` for `deliver 2`
 abbrev pub outcomes_of : {Value Op : Type 0} → Meaning Value Op → Config → Facts Op → Event Op → List Outcome
 outcomes_of m config w event =
     let own = own_lines m config w event in
@@ -171,11 +189,13 @@ pub record IsLegalStep {Value Op : Type 0} (m : Meaning Value Op) (config : Conf
   pub outcomes : step.outcomes ≡ outcomes_of m config w step.event
 
 -- each step is legal after the steps before it
+-- for example: no step at all
 abbrev pub LegalFrom : {Value Op : Type 0} → Meaning Value Op → Config → Facts Op → List (Step Op) → Type 0
 LegalFrom m config w [] = Unit {0}
 LegalFrom m config w (step ∷ steps) =
     IsLegalStep m config w step × LegalFrom m config (after m config w step) steps
 
 -- a legal history
+-- for example: `add_and_read` with `got 0.1` and the answer 3
 abbrev pub IsLegal : {Value Op : Type 0} → Meaning Value Op → Config → List (Step Op) → Type 0
 IsLegal m config steps = LegalFrom m config first_facts steps

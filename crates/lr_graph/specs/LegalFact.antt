@@ -1,4 +1,5 @@
 -- That a history is legal has one proof at the most.
+-- So it follows where it is known only that the history was made by the rules in some way.
 use Rattle.std.specs.Prelude.{List, [], ◌∷◌}
 use Rattle.std.specs.Coded.{Coded-set, coded_bool, coded_list, Unit-prop, ×_prop}
 use Rattle.lr_base.specs.Meaning.{Meaning}

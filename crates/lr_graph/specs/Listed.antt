@@ -19,6 +19,7 @@ pub record IsListOf {A : Type 0} (before : A → A → Bool) (IsSo : A → Type 
   pub back : (x : A) → IsSo x → IsAmong x xs
 
 -- the set has an acceptance of the call at this spot, and none before it
-pub record IsLeastOf {Op : Type 0} (accepted : List (Acceptance Op)) (set : SpotSet) (cid : Cid) (spot : Spot) : Type 0 where
+pub record IsLeastOf {Op : Type 0} (accepted : List (Acceptance Op)) (set : SpotSet) (cid : Cid) (spot : Spot)
+    : Type 0 where
   pub member : HasMember accepted set (λ a. (a.cid ≡ cid) × (a.spot ≡ spot))
   pub least : (a : Acceptance Op) → IsAmong a accepted → set a.spot ≡ true → a.cid ≡ cid → is_before a.spot spot ≡ false

@@ -1,4 +1,6 @@
 -- What a table that is kept by number says.
+-- How the lists of a program tell facts, for the slow calls below. In the examples `0:1` was accepted and received at
+-- `r0`.
 use Rattle.std.specs.Prelude.{ℕ, ◌==◌, List, Option}
 use Rattle.std.specs.List.{find}
 use Rattle.std.specs.Option.{option_map}

@@ -19,6 +19,7 @@ use Rattle.lr_graph.specs.declared.facts.items.Load.TheVariants.{Update, Query, 
 use Rattle.lr_graph.specs.declared.facts.items.SentCopy.{SentCopy}
 
 -- the set of the spots of a list
+-- for example: of `[0:1]`, the set of `0:1` alone
 abbrev pub set_of : List Spot → SpotSet
 set_of list spot = list_any (same_spot spot) list
 
@@ -71,6 +72,7 @@ front_or_first None = first_front
 front_or_first (Some front) = front_of front
 
 -- what is told of each replica
+-- for example: at `r0` the set of `0:1`, at `r1` nothing
 abbrev pub received_in : List (Entry (List Spot)) → ℕ → SpotSet
 received_in entries i = set_or_nothing (entry_at entries i)
 
@@ -94,5 +96,6 @@ told g = record {
 }
 
 -- whether an acceptance is received with all its causes
+-- for example: true of `0:1` at `r0`
 abbrev pub is_ready_among : {Op : Type 0} → List (Acceptance Op) → SpotSet → Acceptance Op → Bool
 is_ready_among accepted received a = received a.spot && is_within accepted a.below received

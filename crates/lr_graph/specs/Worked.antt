@@ -21,6 +21,7 @@ abbrev pub small : Config
 small = record { replicas = 1; clients = 1; delta = 10 }
 
 -- the client's first call
+-- for example: `0.1`, `0.2`
 abbrev pub first_call : Cid
 first_call = record { client = 0; seq = 1 }
 
@@ -29,6 +30,7 @@ abbrev pub second_call : Cid
 second_call = record { client = 0; seq = 2 }
 
 -- the replica's first spot
+-- for example: `0:1`
 abbrev pub first_spot : Spot
 first_spot = record { place = 0; number = 1 }
 
@@ -51,6 +53,7 @@ after_both = record {
 }
 
 -- an addition and then a read that has this answer, and what the front end prints of the addition's reply
+-- for example: legal with `got 0.1` and 3; not with 4, and not where nothing is printed
 abbrev pub add_and_read : List Outcome → List ℕ → List (Step TallyOp)
 add_and_read got text =
     step (Call 0 0 5 (Add (codes "x") 3)) (Send 1 (Client 0) (Replica 0) (Update first_call 5) ∷ [])

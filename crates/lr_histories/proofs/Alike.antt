@@ -170,15 +170,14 @@ module _ {V W Op : Type 0} {m : Meaning V Op} {n : Meaning W Op} (h : Alike m n)
   legal-from : (config : Config) (w : Facts Op) (steps : List (Step Op)) → LegalFrom m config w steps
       → LegalFrom n config w steps
   legal-from config w [] legal = tt
-  legal-from config w (step ∷ steps) legal =
-      (
-        record {
-          event = sym (same-event config step.event) ∙ legal.0.event;
-          outcomes = legal.0.outcomes ∙ same-outcomes config w step.event;
-        },
-        subst (λ (u : Facts Op). LegalFrom n config u steps) (same-after config w step)
-            (legal-from config (after m config w step) steps legal.1),
-      )
+  legal-from config w (step ∷ steps) legal = (
+    record {
+      event = sym (same-event config step.event) ∙ legal.0.event;
+      outcomes = legal.0.outcomes ∙ same-outcomes config w step.event;
+    },
+    subst (λ (u : Facts Op). LegalFrom n config u steps) (same-after config w step)
+        (legal-from config (after m config w step) steps legal.1),
+  )
 
   -- what is legal by the one is legal by the other
   pub legal-alike : (config : Config) (steps : List (Step Op)) → IsLegal m config steps → IsLegal n config steps

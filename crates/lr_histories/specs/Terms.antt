@@ -9,6 +9,7 @@ use Rattle.lr_base.specs.declared.names.Spot.{Spot}
 
 -- a printed history: what its header says, its steps with any outcome in the place of one, the outcome that is
 -- printed there, and another
+-- for example: of `first`, with the answer 3 and with 4
 pub record PrintedHistory (Op : Type 0) : Type 0 where
   pub config : Config
   pub steps : Outcome → List (Step Op)
@@ -16,6 +17,7 @@ pub record PrintedHistory (Op : Type 0) : Type 0 where
   pub altered : Outcome
 
 -- a client's call, by its number
+-- for example: `cid 0 1` is `0.1`
 abbrev pub cid : ℕ → ℕ → Cid
 cid client seq = record { client = client; seq = seq }
 

@@ -1,4 +1,4 @@
--- The lines that a run prints.
+-- To be believed: the lines that a run prints.
 use Rattle.std.specs.Prelude.{ℕ, ◌+◌, List, [], ◌∷◌, ◌++◌, codes}
 use Rattle.std.specs.Fmt.{decimal}
 use Rattle.std.specs.List.{flat_map}
@@ -19,15 +19,18 @@ use Rattle.lr_report.specs.Texts.{cid_text, spot_text, actor_text}
 use Rattle.lr_script.specs.declared.heading.Header.{Header}
 
 -- the texts of a list's elements with a mark between each two, or a hyphen where there is none
+-- for example: `0.1,0.2`
 abbrev pub joined_by : {A : Type 0} → List ℕ → (A → List ℕ) → List A → List ℕ
 joined_by mark text [] = codes "-"
 joined_by mark text (x ∷ xs) = text x ++ flat_map (λ y. mark ++ text y) xs
 
 -- a mark: the view and the number that are frozen
+-- for example: `0/4`
 abbrev pub mark_text : ℕ × ℕ → List ℕ
 mark_text mark = decimal mark.0 ++ (codes "/" ++ decimal mark.1)
 
 -- what a message is, as it is printed when it is sent
+-- for example: `done 0.1 as 0:1`
 abbrev pub sent_text : ℕ → Sent → List ℕ
 sent_text replicas (Update cid time) = codes "update " ++ (cid_text cid ++ (codes " at " ++ decimal time))
 sent_text replicas (Query cid) = codes "query " ++ cid_text cid
@@ -36,6 +39,7 @@ sent_text replicas (Answer cid text) = codes "answer " ++ (cid_text cid ++ (code
 sent_text replicas Gossip = codes "gossip"
 
 -- why nothing was done
+-- for example: `open 0.2`
 abbrev pub refusal_text : ℕ → Refusal → List ℕ
 refusal_text replicas (Late time clock) = codes "late " ++ (decimal time ++ (codes " " ++ decimal clock))
 refusal_text replicas (Again spot) = codes "again " ++ spot_text replicas spot
@@ -66,6 +70,7 @@ call_fields line =
     ++ (codes " frozen " ++ joined_by (codes ",") mark_text line.marks))))
 
 -- an outcome, in a run with so many replicas
+-- for example: `accept 0:1 0.1`
 abbrev pub outcome_text : ℕ → Outcome → List ℕ
 outcome_text replicas (Send number from to what) =
     codes "send " ++ (decimal number ++ (codes " " ++ (actor_text from
@@ -84,10 +89,12 @@ abbrev pub outcome_line : ℕ → Outcome → List ℕ
 outcome_line replicas outcome = codes "  " ++ line_of (outcome_text replicas outcome)
 
 -- an event's line: its number stands before the event's text
+-- for example: `2: deliver 1`
 abbrev pub event_line : ℕ → List ℕ → List ℕ
 event_line number text = decimal number ++ (codes ": " ++ line_of text)
 
 -- the line of an event of this text, and those of what it did
+-- for example: `2: deliver 1` and the two lines below it
 abbrev pub lines_of_step : Config → ℕ → List ℕ → List Outcome → List ℕ
 lines_of_step config number text outcomes =
     event_line number text ++ flat_map (outcome_line config.replicas) outcomes

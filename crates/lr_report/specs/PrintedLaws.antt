@@ -1,4 +1,5 @@
 -- How the text of a history grows.
+-- A fact with its proof: one more step's lines stand behind those of the steps before it (`steps_text-more`).
 use Rattle.std.specs.Prelude.{◌≡◌, ℕ, ◌+◌, List, [], ◌∷◌, ◌++◌, length}
 use Rattle.std.proofs.Common.{sym, ◌∙◌, ap, append-nil, append_assoc, arith}
 use Rattle.lr_base.specs.Meaning.{Meaning}

@@ -1,5 +1,6 @@
 -- What a printed history has to keep to, so that its text tells it from others: its numbers fit, its operations are
 -- real, and no answer holds a line feed.
+-- What a printed history has to keep to, so that its text tells it from others.
 use Rattle.std.specs.Prelude.{◌≢◌, ℕ, ◌<◌, ◌^◌, List}
 use Rattle.std.specs.List.{All}
 use Rattle.lr_base.specs.Meaning.{Meaning}
@@ -23,6 +24,7 @@ abbrev pub NumberFits : ℕ → Type 0
 NumberFits number = number < 2 ^ 64
 
 -- a call's two numbers fit
+-- for example: `0.1`, `0:1`, `0/4`, `c0`
 abbrev pub CidFits : Cid → Type 0
 CidFits cid = NumberFits cid.client × NumberFits cid.seq
 
@@ -40,10 +42,12 @@ ActorFits (Client number) = NumberFits number
 ActorFits (Replica number) = NumberFits number
 
 -- no byte is a line feed
+-- for example: `3`
 abbrev pub HasNoFeed : List ℕ → Type 0
 HasNoFeed text = All (λ byte. byte ≢ 10) text
 
 -- the numbers of a message fit, and the text of an answer holds no line feed
+-- for example: `done 0.1 as 0:1`
 abbrev pub SentFits : Sent → Type 0
 SentFits (Update cid time) = CidFits cid × NumberFits time
 SentFits (Query cid) = CidFits cid
@@ -52,6 +56,7 @@ SentFits (Answer cid text) = CidFits cid × HasNoFeed text
 SentFits Gossip = Unit
 
 -- the numbers in the reason why nothing was done fit
+-- for example: `open 0.2`
 abbrev pub RefusalFits : Refusal → Type 0
 RefusalFits (Late time clock) = NumberFits time × NumberFits clock
 RefusalFits (Again spot) = SpotFits spot
@@ -74,6 +79,7 @@ pub record StateFits (line : StateLine) : Type 0 where
   pub marks : All MarkFits line.marks
 
 -- all numbers of an outcome fit, and the text of an answer holds no line feed
+-- for example: `got 0.1`
 abbrev pub OutcomeFits : Outcome → Type 0
 OutcomeFits (Send number from to what) = NumberFits number × ActorFits from × ActorFits to × SentFits what
 OutcomeFits (Accept spot cid) = SpotFits spot × CidFits cid

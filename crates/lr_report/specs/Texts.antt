@@ -1,4 +1,4 @@
--- The one text of each name in a history.
+-- To be believed: the one text of each name in a history.
 use Rattle.std.specs.Prelude.{ℕ, List, ◌++◌, ◌==◌, cond, codes}
 use Rattle.std.specs.Fmt.{decimal}
 use Rattle.lr_base.specs.declared.names.Actor.{Actor}
@@ -7,6 +7,7 @@ use Rattle.lr_base.specs.declared.names.Cid.{Cid}
 use Rattle.lr_base.specs.declared.names.Spot.{Spot}
 
 -- a call: its client and that client's count of calls
+-- for example: `0.1`, `0`, `0:1`, `c0`
 abbrev pub cid_text : Cid → List ℕ
 cid_text cid = decimal cid.client ++ (codes "." ++ decimal cid.seq)
 

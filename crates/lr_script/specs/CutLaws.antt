@@ -1,4 +1,5 @@
 -- A list is cut in one way at the first element that fails a test.
+-- A fact with its proof: a list is cut in one way at the first element that fails a test (`cut_one`).
 use Rattle.std.specs.Prelude.{◌≡◌, ℕ, Bool, true, false, ◌&&◌, List, [], ◌∷◌, ◌++◌}
 use Rattle.std.specs.List.{list_all}
 use Rattle.std.proofs.Common.{refl, sym, ◌∙◌, ap}

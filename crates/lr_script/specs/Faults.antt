@@ -1,4 +1,4 @@
--- The first cause at a bad line.
+-- To be believed: the first cause at a bad line.
 use Rattle.std.specs.Prelude.{◌≡◌, ◌≢◌, ℕ, ◌+◌, ◌<◌, ◌≤◌, ◌^◌, ◌==◌, ◌⊎◌, ◌↔◌, true, false, List, [], ◌∷◌, ◌++◌, length}
 use Rattle.std.specs.Fmt.{decimal}
 use Rattle.std.specs.List.{All, list_any}
@@ -24,6 +24,7 @@ abbrev pub IsEnded : List ℕ → Type 0
 IsEnded bytes = list_any (λ byte. byte == 10) bytes ≡ true
 
 -- the first byte that isn't printable is no line feed, and a line feed comes later
+-- for example: a tabulator
 pub record HasBadByte (bytes : List ℕ) : Type 0 where
   pub before : List ℕ
   pub byte : ℕ
@@ -35,12 +36,14 @@ pub record HasBadByte (bytes : List ℕ) : Type 0 where
   pub ended : IsEnded later
 
 -- the bytes begin with no line of printable bytes
+-- for example: `show 0` at the end of input
 abbrev pub IsNoLine : List ℕ → Cause → Type 0
 IsNoLine bytes Unended = list_any (λ byte. byte == 10) bytes ≡ false
 IsNoLine bytes Byte = HasBadByte bytes
 IsNoLine bytes _ = ⊥
 
 -- a field that has to be a number isn't one
+-- for example: `call x 0 5 read x`
 pub record HasNoNumber (fields : List ℕ) : Type 0 where
   pub client : List ℕ
   pub replica : List ℕ
@@ -50,6 +53,7 @@ pub record HasNoNumber (fields : List ℕ) : Type 0 where
   pub bad : IsNoNumber client ⊎ IsNoNumber replica ⊎ IsNoNumber reading
 
 -- the numbers are numbers, and there is no such client or no such replica
+-- for example: `call 9 0 5 read x` with one client
 pub record IsOutOfRange (config : Config) (fields : List ℕ) : Type 0 where
   pub client : ℕ
   pub replica : ℕ
@@ -62,6 +66,7 @@ pub record IsOutOfRange (config : Config) (fields : List ℕ) : Type 0 where
   pub bad : (config.clients ≤ client) ⊎ (config.replicas ≤ replica)
 
 -- there are such a client and such a replica, and the rest is no operation that has rules
+-- for example: `call 0 0 5 fly`
 pub record HasNoOp {Value Op : Type 0} (m : Meaning Value Op) (config : Config) (fields : List ℕ) : Type 0 where
   pub client : ℕ
   pub replica : ℕ
@@ -74,6 +79,7 @@ pub record HasNoOp {Value Op : Type 0} (m : Meaning Value Op) (config : Config) 
   pub bad : IsNoCalled m op
 
 -- what stands behind a call's word is no call
+-- for example: `deliver 1 2`: `fields`
 abbrev pub IsBadCall : {Value Op : Type 0} → Meaning Value Op → Config → List ℕ → Cause → Type 0
 IsBadCall m config fields Fields = spaces fields < 3
 IsBadCall m config fields Number = HasNoNumber fields
@@ -88,6 +94,7 @@ IsBadDeliver fields Number = (spaces fields ≡ 0) × IsNoNumber fields
 IsBadDeliver fields _ = ⊥
 
 -- one of two fields that have to be numbers isn't one
+-- for example: `gossip x 1`
 pub record HasNoPair (fields : List ℕ) : Type 0 where
   pub first : List ℕ
   pub second : List ℕ
@@ -95,6 +102,7 @@ pub record HasNoPair (fields : List ℕ) : Type 0 where
   pub bad : IsNoNumber first ⊎ IsNoNumber second
 
 -- the two fields are numbers, and there aren't two such replicas
+-- for example: `gossip 1 1`
 pub record AreNoTwoReplicas (config : Config) (fields : List ℕ) : Type 0 where
   pub first : ℕ
   pub second : ℕ
@@ -126,6 +134,7 @@ IsBadFields m config Gossip fields cause = IsBadGossip config fields cause
 IsBadFields m config Show fields cause = IsBadShow config fields cause
 
 -- a printable line is no event's
+-- for example: `fly`: `event`
 pub data IsBadEvent {Value Op : Type 0} (m : Meaning Value Op) (config : Config) (line : List ℕ) : Cause → Type 0 where
   no_word : ((word : EventWord) → line ≢ word_text word)
       → ((word : EventWord) (rest : List ℕ) → line ≢ word_text word ++ 32 ∷ rest) → IsBadEvent m config line NoWord
@@ -140,6 +149,7 @@ pub data IsBadLine {Value Op : Type 0} (m : Meaning Value Op) (config : Config) 
       → IsBadEvent m config line cause → IsBadLine m config bytes cause
 
 -- the bytes don't begin with a header's line
+-- for example: no bytes: line 1, `header`
 pub data IsBadHead (bytes : List ℕ) : ℕ → Cause → Type 0 where
   too_long : 8388608 < length bytes → IsBadHead bytes 0 TooLong
   empty : bytes ≡ [] → IsBadHead bytes 1 Header
@@ -149,6 +159,7 @@ pub data IsBadHead (bytes : List ℕ) : ℕ → Cause → Type 0 where
       → ((header : Head) → IsSetUp header.config → line ≢ header_text header) → IsBadHead bytes 1 Header
 
 -- the lines before this one are events', and here the next event's would begin
+-- for example: line 3 of `HEADER`, `show 0`, `fly`
 pub record IsBadAmong {Value Op : Type 0}
     (m : Meaning Value Op) (config : Config) (lines : List ℕ) (line : ℕ) (cause : Cause) : Type 0 where
   pub events : List (Event Op)
@@ -195,6 +206,7 @@ IsScriptFault m bytes NoMemory = Unit {0}
 
 -- the bytes mean no header and no events: this is the first bad line, with the first cause at it; too many bytes are
 -- refused for just that
+-- for example: line 1, `unended`, of `hello`
 pub record IsRefusal {Value Op : Type 0}
     (m : Meaning Value Op) (bytes : List ℕ) (line : ℕ) (cause : Cause) : Type 0 where
   pub meaningless : IsNoScript m bytes

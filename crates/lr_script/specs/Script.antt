@@ -1,4 +1,4 @@
--- What a script says: its header and its events, and which bytes they are written as.
+-- To be believed: what a script says: its header and its events, and which bytes they are written as.
 use Rattle.std.specs.Prelude.{◌≡◌, ◌≢◌, ℕ, ◌<◌, ◌≤◌, ◌^◌, Bool, true, ◌&&◌, List, [], ◌∷◌, ◌++◌, length}
 use Rattle.std.specs.List.{All, flat_map}
 use Rattle.lr_base.specs.Config.{IsValid}
@@ -24,19 +24,23 @@ abbrev pub script_text : {Value Op : Type 0} → Meaning Value Op → Header →
 script_text m header events = line_of (header_text header) ++ events_text m events
 
 -- a script may ask for this: 1 to 9 replicas, 1 to 64 clients, and a number
+-- for example: 9, 64, 10
 pub record IsSetUp (config : Config) : Type 0 where
   pub valid : IsValid config
   pub number : config.delta < 2 ^ 64
 
 -- an operation of the service, of a kind that has rules
+-- for example: `send ann hi`, not `add ann`
 abbrev pub is_called : {Value Op : Type 0} → Meaning Value Op → Op → Bool
 is_called m op = m.is_op op && has_rules (m.kind op)
 
 -- the text is no such operation's
+-- for example: `fly`; `add ann` in a script of mail
 abbrev pub IsNoCalled : {Value Op : Type 0} → Meaning Value Op → List ℕ → Type 0
 IsNoCalled {Value} {Op} m text = (op : Op) → is_called m op ≡ true → m.text op ≢ text
 
 -- an event's numbers fit in 64 bits, and it calls an operation of the service
+-- for example: `show 300`, not `call 0 0 5 fly`
 abbrev pub EventFits : {Value Op : Type 0} → Meaning Value Op → Event Op → Type 0
 EventFits m (Call client replica reading op) =
     (client < 2 ^ 64) × (replica < 2 ^ 64) × (reading < 2 ^ 64) × (m.is_op op ≡ true)
@@ -45,6 +49,7 @@ EventFits m (Gossip from to) = (from < 2 ^ 64) × (to < 2 ^ 64)
 EventFits m (Show replica) = replica < 2 ^ 64
 
 -- an event that fits a run with this set-up, with numbers that fit and an operation of the service
+-- for example: `show 0`, not `gossip 0 0`
 abbrev pub Fits : {Value Op : Type 0} → Meaning Value Op → Config → Event Op → Type 0
 Fits m config event = FitsRun m config event × EventFits m event
 
@@ -55,6 +60,7 @@ pub record HasHeader (header : Header) (bytes : List ℕ) : Type 0 where
   pub text : bytes ≡ line_of (header_text header) ++ rest
 
 -- a header that is read of the bytes names the service of this number
+-- for example: 2, where it is `lazyrep 1 mail 1 1 10`
 abbrev pub IsNamed : ℕ → List ℕ → Type 0
 IsNamed number bytes =
     (header : Header) → HasHeader header bytes → length bytes ≤ 8388608 → service_number header.service ≡ number
@@ -68,6 +74,7 @@ pub record IsScript {Value Op : Type 0}
   pub text : bytes ≡ script_text m header events
 
 -- there is a header with which the bytes are the script of these events, and they are so with each that they begin with
+-- for example: `show 0`, of a header's line and `show 0`
 pub record AreEventsOf {Value Op : Type 0}
     (m : Meaning Value Op) (bytes : List ℕ) (events : List (Event Op)) : Type 0 where
   pub header : Header
@@ -75,5 +82,6 @@ pub record AreEventsOf {Value Op : Type 0}
   pub same : (other : Header) → HasHeader other bytes → IsScript m other events bytes
 
 -- the bytes are no header's and no events' text
+-- for example: `hello`
 abbrev pub IsNoScript : {Value Op : Type 0} → Meaning Value Op → List ℕ → Type 0
 IsNoScript {Value} {Op} m bytes = (header : Header) (events : List (Event Op)) → ¬ (IsScript m header events bytes)

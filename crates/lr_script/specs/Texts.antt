@@ -1,4 +1,4 @@
--- The one text of each thing that scripts speak of.
+-- To be believed: the one text of each thing that scripts speak of.
 use Rattle.std.specs.Prelude.{ℕ, List, ◌++◌, codes}
 use Rattle.std.specs.Fmt.{decimal}
 use Rattle.lr_base.specs.Meaning.{Meaning}
@@ -10,12 +10,14 @@ use Rattle.lr_script.specs.declared.heading.Name.{Name}
 use Rattle.lr_script.specs.declared.heading.Name.TheVariants.{Tally, Mail, Claims}
 
 -- a service's name
+-- for example: `lazyrep 1 tally 1 1 10`
 abbrev pub service_text : Name → List ℕ
 service_text Tally = codes "tally"
 service_text Mail = codes "mail"
 service_text Claims = codes "claims"
 
 -- a service's number, as it stands in stable bytes
+-- for example: 1 of `tally`, 2 of `mail`, 3 of `claims`
 abbrev pub service_number : Name → ℕ
 service_number Tally = 1
 service_number Mail = 2
@@ -31,6 +33,7 @@ abbrev pub header_text : Header → List ℕ
 header_text header = codes "lazyrep 1 " ++ (service_text header.service ++ (codes " " ++ config_text header.config))
 
 -- an event's line: its word, then its fields with one space before each
+-- for example: `call 0 0 5 add x 3`
 abbrev pub event_text : {Value Op : Type 0} → Meaning Value Op → Event Op → List ℕ
 event_text m (Call client replica reading op) =
     codes "call " ++ (decimal client ++ (codes " " ++ (decimal replica

@@ -1,4 +1,4 @@
--- How a simulation ends.
+-- To be believed: how a simulation ends.
 use Rattle.std.specs.Prelude.{◌≡◌, ◌≢◌, ◌<◌, ◌≤◌, ◌⊎◌, ◌↔◌, ℕ, List, [], Option, length}
 use Rattle.std.specs.Io.KnownBytes.{Appends, Consumes, IsAtEnd}
 use Rattle.lr_base.specs.Meaning.{Meaning}
@@ -32,6 +32,7 @@ abbrev pub IsNoScriptOf : {Value Op : Type 0} → Meaning Value Op → Header �
 IsNoScriptOf {Value} {Op} m header bytes = (events : List (Event Op)) → ¬ (IsScript m header events bytes)
 
 -- the bytes are the text of this header and of events, and the legal history of these was written, whole
+-- for example: `first.script` was read, and `first.history` was written
 pub record HasRunOf {Value Op : Type 0}
     (m : Meaning Value Op) (header : Header) (bytes : List ℕ) (before now : Option (List ℕ)) : Type 0 where
   pub events : List (Event Op)
@@ -39,6 +40,7 @@ pub record HasRunOf {Value Op : Type 0}
   pub printed_all : HasPrinted m header events before now []
 
 -- the same, and the front of the legal history of some first of the events was written
+-- for example: the header's line and half of the next
 pub record HasRunPartOf {Value Op : Type 0}
     (m : Meaning Value Op) (header : Header) (bytes : List ℕ) (before now : Option (List ℕ)) : Type 0 where
   pub events : List (Event Op)
@@ -65,6 +67,7 @@ pub record HasRunPart (bytes : List ℕ) (before now : Option (List ℕ)) : Type
   pub part : HoldsOf (λ Value Op m. HasRunPartOf m header bytes before now) header.service
 
 -- the bytes begin with this header's line, and this is the first bad line behind it, with the first cause at it
+-- for example: line 2, `op`, of `call 0 0 5 add ann` behind a header of mail
 pub record IsBadBehind (bytes : List ℕ) (line : ℕ) (cause : Cause) : Type 0 where
   pub header : Header
   pub has : HasHeader header bytes
@@ -72,6 +75,7 @@ pub record IsBadBehind (bytes : List ℕ) (line : ℕ) (cause : Cause) : Type 0 
 
 -- the bytes mean no header and events of the service that it names: this is the first bad line, with the first cause
 -- at it; too many bytes are refused for just that
+-- for example: line 1, `unended`, of `hello`
 pub record IsRefusedFor (bytes : List ℕ) (line : ℕ) (cause : Cause) : Type 0 where
   pub meaningless : (header : Header) → HoldsOf (λ Value Op m. IsNoScriptOf m header bytes) header.service
   pub fault : IsBadHead bytes line cause ⊎ IsBadBehind bytes line cause
@@ -118,6 +122,7 @@ IsDoneFor {Value} {Op} m header bytes end = (events : List (Event Op)) → IsScr
 
 -- where neither count of faults rose, bytes were read, and if they mean a header and events of its service the
 -- simulation is done; or there was no memory
+-- for example: not: a write fault, or a refusal of `first.script`
 pub data IsComplete (left_before left_now : Option (List ℕ)) (end : SimEnd) : Type 0 where
   no_memory : end ≡ NoMemory → IsComplete left_before left_now end
   was_read : (bytes : List ℕ) → HasRead left_before left_now bytes

@@ -1,4 +1,5 @@
 -- What the step of an actor puts into the outbox of its run.
+-- In the examples replica 0 makes event 2 of `first.script`.
 use Rattle.std.specs.Prelude.{◌+◌, ◌++◌, ℕ, List, [], ◌∷◌, length}
 use Rattle.lr_base.specs.declared.acts.Act.{Act}
 use Rattle.lr_base.specs.declared.acts.Act.TheVariants.{Say, Send}
@@ -9,6 +10,7 @@ use Rattle.lr_base.specs.declared.names.Actor.{Actor}
 use Rattle.lr_graph.specs.Runs.{sent_of_message}
 
 -- who makes the step, how many messages were sent before it, and its lines and messages so far
+-- for example: `r0`, 1, none yet
 pub record Outboxed (Op : Type 0) : Type 0 where
   pub from : Actor
   pub sent : ℕ
@@ -16,6 +18,7 @@ pub record Outboxed (Op : Type 0) : Type 0 where
   pub posts : List (Posted Op)
 
 -- a step of this actor begins, where so many messages were sent before
+-- for example: `r0`, 1, no line, no message
 abbrev pub opened : {Op : Type 0} → Actor → ℕ → Outboxed Op
 opened from sent = record { from = from; sent = sent; lines = []; posts = [] }
 
@@ -28,6 +31,7 @@ after_act out (Send to message) = record out {
 }
 
 -- all this is done, in order
+-- for example: two lines, and the reply as message 2
 abbrev pub after_acts : {Op : Type 0} → Outboxed Op → List (Act Op) → Outboxed Op
 after_acts out [] = out
 after_acts out (act ∷ acts) = after_acts (after_act out act) acts

@@ -1,4 +1,6 @@
 -- What a part of a step has done.
+-- What a part of a step has done, and what a task of a replica comes to. A task is to take a message, or to tell
+-- another replica.
 use Rattle.std.specs.Prelude.{◌≡◌, ◌<◌, ◌++◌, ℕ, true, [], ◌∷◌}
 use Rattle.lr_base.specs.Fronts.{FrontEnding, FrontState}
 use Rattle.lr_base.specs.Meaning.{Meaning}
@@ -17,31 +19,37 @@ use Rattle.lr_world.specs.declared.task.Task.{Task}
 use Rattle.lr_world.specs.declared.task.Task.TheVariants.{Take, Tell}
 
 -- a part of a replica's step ended so: this is its state, and what it did stands in the outbox behind what stood there
+-- for example: after the update: `0:1` is logged, and its line and its reply are in the outbox
 pub record HasDone {Value Op : Type 0} (end : Ending Value Op) (state : CausalState Value Op)
     (before now : Outboxed Op) : Type 0 where
   pub state_is : state ≡ end.state
   pub acts_are : now ≡ after_acts before end.acts
 
 -- and so did a front end's
+-- for example: no call is open, and `got 0.1`
 pub record HasFrontDone {Op : Type 0} (end : FrontEnding Op) (front : FrontState)
     (before now : Outboxed Op) : Type 0 where
   pub front_is : front ≡ end.front
   pub acts_are : now ≡ after_acts before end.acts
 
 -- what a task itself does at a replica: a message is taken, or gossip is told
+-- for example: `own_taken`; `send 4 r0 r1 gossip`
 abbrev pub own_of : {Value Op : Type 0} → Meaning Value Op → ReplicaState Value Op → Task Op → Ending Value Op
 own_of m r (Take from message) = own_taken m r.config r.me r.causal from message.now
 own_of m r (Tell to) = record { state = r.causal; acts = Send (Replica to) (GossipMessage (gossip_of r.causal)) ∷ [] }
 
 -- what a task comes to, to the end of the step
+-- for example: `taken`; `gossiped`
 abbrev pub end_of : {Value Op : Type 0} → Meaning Value Op → ReplicaState Value Op → Task Op → Ending Value Op
 end_of m r task = let own = own_of m r task in ended m r.config.replicas own.state own.acts
 
 -- what is ready is applied, and then held queries are answered
+-- for example: x is 3
 abbrev pub settled : {Value Op : Type 0} → Meaning Value Op → CausalState Value Op → Ending Value Op
 settled m state = let now = applied m state in record { state = now; acts = held_acts m now now.held }
 
 -- a task up to what can't fail
+-- for example: x is 3, and `0:1` is still logged
 abbrev pub begun : {Value Op : Type 0} → Meaning Value Op → ReplicaState Value Op → Task Op → Ending Value Op
 begun m r task =
     let own = own_of m r task in
@@ -49,6 +57,7 @@ begun m r task =
     record { state = end.state; acts = own.acts ++ end.acts }
 
 -- a step's end that can't fail: answered queries are held no more, and what is known everywhere leaves
+-- for example: a lone replica's log is empty
 abbrev pub finished : {Value Op : Type 0} → ℕ → CausalState Value Op → CausalState Value Op
 finished replicas state = pruned replicas (still_held state)
 
@@ -58,11 +67,13 @@ IsTask kind_of config (Take from message) = (is_actor config from ≡ true) × I
 IsTask kind_of config (Tell to) = to < config.replicas
 
 -- a message of a replica may tell more of what that replica has received, and a client's nothing
+-- for example: row 1 of gossip of `r1`, the own row of an update of `c0`
 abbrev pub row_of : ℕ → Actor → ℕ
 row_of me (Client client) = me
 row_of me (Replica from) = from
 
 -- of what this replica was heard to have received a task may tell more
+-- for example: replica 1, of gossip of `r1`
 abbrev pub heard_in : {Op : Type 0} → ℕ → Task Op → ℕ
 heard_in me (Take from message) = row_of me from
 heard_in me (Tell to) = me

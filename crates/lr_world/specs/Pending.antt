@@ -1,4 +1,5 @@
 -- Steps of a run that are made up to what can't fail.
+-- They are then finished, or taken back.
 use Rattle.std.specs.Prelude.{◌≡◌, ◌<◌, ◌++◌, ℕ, List, [], Option, Some, None, length, set, slice_get, take}
 use Rattle.std.specs.Option.{ForSome}
 use Rattle.lr_base.specs.Meaning.{Meaning}
@@ -21,6 +22,7 @@ use Rattle.lr_world.specs.declared.task.Task.{Task}
 use Rattle.lr_world.specs.declared.task.Task.TheVariants.{Take as TakeTask, Tell as TellTask}
 
 -- who acts is one of the run's, and its front end is one of the run
+-- for example: replica 0
 abbrev pub IsActing : {Value Op : Type 0} → Config → Acting Value Op → Type 0
 IsActing config Nobody = Unit {0}
 IsActing config (AtFront client front) = (client < config.clients) × IsFront config client front
@@ -35,12 +37,14 @@ replica_finished run me (Some r) = record run {
 }
 
 -- the run once the step is finished
+-- for example: the front end after its call is in its place
 abbrev pub completed : {Value Op : Type 0} → Acting Value Op → RunState Value Op → RunState Value Op
 completed Nobody run = run
 completed (AtFront client front) run = with_front run client front
 completed (AtReplica me point) run = replica_finished run me (slice_get run.replicas me)
 
 -- one of the replicas has begun a step, and its savepoint gives back what it was
+-- for example: replica 0, with `add x 3` applied
 pub record HasBegunAt {Value Op : Type 0} (me : ℕ) (point : Saved Value)
     (before now : List (ReplicaState Value Op)) : Type 0 where
   pub was : ReplicaState Value Op
@@ -51,6 +55,7 @@ pub record HasBegunAt {Value Op : Type 0} (me : ℕ) (point : Saved Value)
   pub undoes : IsPointOf point is.causal was.causal
 
 -- the replicas are those of before, but for one that has begun a step
+-- for example: those of before, while a front end acts
 abbrev pub HaveBegun : {Value Op : Type 0} → Acting Value Op → List (ReplicaState Value Op)
     → List (ReplicaState Value Op) → Type 0
 HaveBegun Nobody before now = now ≡ before
@@ -58,12 +63,14 @@ HaveBegun (AtFront client front) before now = now ≡ before
 HaveBegun (AtReplica me point) before now = HasBegunAt me point before now
 
 -- from this run the step can be taken back, which gives the run before
+-- for example: one message, and then two
 pub record CanTakeBack {Value Op : Type 0} (pending : Pending Value Op) (before now : RunState Value Op) : Type 0 where
   pub sent : take pending.sent now.posted ≡ before.posted
   pub fronts : now.fronts ≡ before.fronts
   pub replicas : HaveBegun pending.who before.replicas now.replicas
 
 -- a step is made up to what can't fail: finished it is this one, these are its lines, and it can be taken back
+-- for example: event 2, before the log is emptied
 pub record HasBegun {Value Op : Type 0} (config : Config) (made : Stepped Value Op) (before now : RunState Value Op)
     (lines : List Outcome) (pending : Pending Value Op) : Type 0 where
   pub acting : IsActing config pending.who
@@ -78,21 +85,25 @@ message_given m run me None = unchanged run []
 message_given m run me (Some p) = given m run (Replica me) p.from p.message
 
 -- what becomes of an order to a replica: it takes a message, or sends gossip
+-- for example: that at index 0; `gossip 0 1`
 abbrev pub ordered : {Value Op : Type 0} → Meaning Value Op → RunState Value Op → ℕ → Order → Stepped Value Op
 ordered m run me (Take at) = message_given m run me (slice_get run.posted at)
 ordered m run me (Tell to) = replica_gossips m run me to (slice_get run.replicas me)
 
 -- an order that can be given: there is a message at the index
+-- for example: index 0 of one message
 abbrev pub IsWithin : {Op : Type 0} → List (Posted Op) → Order → Type 0
 IsWithin posted (Take at) = at < length posted
 IsWithin posted (Tell to) = Unit {0}
 
 -- an order of this run: a replica that is told is one of the run's
+-- for example: `r1` of two
 abbrev pub IsOrderOf : Config → Order → Type 0
 IsOrderOf config (Take at) = Unit {0}
 IsOrderOf config (Tell to) = to < config.replicas
 
 -- the task of an order: the message at the index with its sender, or whom to tell
+-- for example: the update from `c0`
 abbrev pub IsTaskOf : {Op : Type 0} → List (Posted Op) → Order → Task Op → Type 0
 IsTaskOf posted (Take at) (TakeTask from message) =
     ForSome (slice_get posted at) (λ p. (p.from ≡ from) × (p.message ≡ message.now))
@@ -101,6 +112,7 @@ IsTaskOf posted (Tell to) (TakeTask from message) = ⊥
 IsTaskOf posted (Tell to) (TellTask told) = told ≡ to
 
 -- these messages of an actor are sent, and nothing else has changed
+-- for example: the reply is message 2
 pub record HasSent {Value Op : Type 0} (who : Acting Value Op) (out : Outboxed Op) (before now : RunState Value Op)
     (lines : List Outcome) (pending : Pending Value Op) : Type 0 where
   pub actor : pending.who ≡ who

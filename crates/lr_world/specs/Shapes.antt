@@ -1,4 +1,6 @@
 -- What every message and every act of a run keeps.
+-- What every message and act of a run keeps, so that each delivery meets what its receiver asks for. No contract of a
+-- replica's or a front end's step cites them for what it sends: that it fits is a fact about the rules.
 use Rattle.std.specs.Prelude.{◌≡◌, ◌+◌, ℕ, Bool, true, not, List, [], ◌∷◌, nat_lt}
 use Rattle.lr_base.specs.Kinds.{is_query}
 use Rattle.lr_base.specs.declared.lr_service.Kind.{Kind}
@@ -15,6 +17,7 @@ use Rattle.lr_base.specs.declared.messages.Message.TheVariants.{Update, Query, D
 use Rattle.lr_causal.specs.Causal.{IsGossip}
 
 -- the stamp that a message carries
+-- for example: `[1, 0]` of the reply of `0:1`
 abbrev pub stamp_in : {Op : Type 0} → Message Op → List ℕ
 stamp_in (Update call time) = call.prev
 stamp_in (Query call) = call.prev
@@ -23,6 +26,7 @@ stamp_in (Answer cid text stamp) = stamp
 stamp_in (GossipMessage gossip) = gossip.rep_ts
 
 -- whether the client whose call a message is about is one of the run's; gossip is about none
+-- for example: `0.1` with one client
 abbrev pub has_client : {Op : Type 0} → Config → Message Op → Bool
 has_client config (Update call time) = nat_lt call.cid.client config.clients
 has_client config (Query call) = nat_lt call.cid.client config.clients
@@ -31,6 +35,7 @@ has_client config (Answer cid text stamp) = nat_lt cid.client config.clients
 has_client config (GossipMessage gossip) = true
 
 -- the updates that a message tells
+-- for example: none of a reply
 abbrev pub updates_in : {Op : Type 0} → Message Op → List (LogUpdate Op)
 updates_in (Update call time) = []
 updates_in (Query call) = []
@@ -55,15 +60,18 @@ has_kind kind_of (Answer cid text stamp) = true
 has_kind kind_of (GossipMessage gossip) = true
 
 -- whether there is such a client or such a replica
+-- for example: `r0`, not `r1`
 abbrev pub is_actor : Config → Actor → Bool
 is_actor config (Client client) = nat_lt client config.clients
 is_actor config (Replica replica) = nat_lt replica config.replicas
 
 -- what a message tells by its stamp, as gossip does
+-- for example: `[1, 0]` and no item, of the reply of `0:1`
 abbrev pub told_in : {Op : Type 0} → Message Op → Gossip Op
 told_in message = record { rep_ts = stamp_in message; updates = updates_in message; acks = acks_in message }
 
 -- a message of this run: its client is one of the run's, it holds what it is for, and what it tells can be taken
+-- for example: 2 parts with one replica
 pub record IsShaped {Op : Type 0} (kind_of : Op → Kind) (config : Config) (message : Message Op) : Type 0 where
   pub client : has_client config message ≡ true
   pub kind : has_kind kind_of message ≡ true

@@ -11,6 +11,7 @@ use Rattle.lr_base.specs.Rules.{gossip_of}
 use Rattle.lr_causal.specs.Causal.{IsGossip}
 
 -- a query of this run: its label has a part for each place, its client is one of the run's, and it only reads
+-- for example: `0.2`, `read x`
 pub record IsAsked {Op : Type 0} (kind_of : Op → Kind) (config : Config) (call : Call Op) : Type 0 where
   pub parts : length call.prev ≡ config.replicas + 1
   pub client : call.cid.client < config.clients
@@ -22,6 +23,7 @@ AllAsked kind_of config calls = (k : ℕ) → ForSome (slice_get calls k) (IsAsk
 
 -- a replica of its run: each stamp has a part for each place, what it would tell can be taken, and each held query is
 -- one of the run
+-- for example: `first_replica`
 pub record IsSound {Value Op : Type 0} (kind_of : Op → Kind) (r : ReplicaState Value Op) : Type 0 where
   pub own_place : r.me < r.config.replicas
   pub val_parts : length r.causal.val_ts ≡ r.config.replicas + 1

@@ -12,6 +12,7 @@ pub record History (Op : Type 0) : Type 0 where
   pub steps : List (Step Op)
 
 -- what the run is set up with
+-- for example: `first_run` of a new run
 abbrev pub setup_of : {S Op : Type 0} {g : _} {h : _} → Run S Op g h → Config
 setup_of r = r.config
 
@@ -20,10 +21,12 @@ abbrev pub run_of : {S Op : Type 0} {g : _} {h : _} → Run S Op g h → RunStat
 run_of r = record { replicas = r.replicas.items; fronts = r.fronts.items; posted = r.posted.items }
 
 -- what is printed of its last step
+-- for example: `got 0.1`
 abbrev pub lines_of : {S Op : Type 0} {g : _} {h : _} → Run S Op g h → List Outcome
 lines_of r = r.outbox.lines
 
 -- a run came to this by an event, and these lines are printed of it
+-- for example: event 2 of `first.script`
 pub record HasStepped {Value Op : Type 0} (made : Stepped Value Op) (now : RunState Value Op)
     (lines : List Outcome) : Type 0 where
   pub run : now ≡ made.run

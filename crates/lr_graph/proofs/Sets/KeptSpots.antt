@@ -102,8 +102,8 @@ module _ {Op : Type 0} where
   least_spot-least [] x cid a member here own = absurd member
   least_spot-least (b ∷ l) x cid a (inl e) here own =
       let test : (x b.spot && same_cid cid b.cid) ≡ true =
-        ap (λ (c : Acceptance Op). x c.spot && same_cid cid c.cid) (sym e)
-        ∙ and-intro (x a.spot) _ here (ap (same_cid cid) own ∙ same_cid-self cid) in
+      ap (λ (c : Acceptance Op). x c.spot && same_cid cid c.cid) (sym e)
+      ∙ and-intro (x a.spot) _ here (ap (same_cid cid) own ∙ same_cid-self cid) in
       rw test (by_others (least_spot l x cid))
     where
       spot : a.spot ≡ b.spot

@@ -17,7 +17,7 @@ returns-clause-least g c accepted set cid spot is =
 pub returns-clause-none : goal.returns-clause-none
 returns-clause-none g c accepted set cid none has =
     let least : IsLeast (least_spot accepted set cid) (has.0).spot =
-      least_spot-least accepted set cid has.0 has.1 has.2 has.3 in
+    least_spot-least accepted set cid has.0 has.1 has.2 has.3 in
     rw none at least
 
 pub returns-clause-kept : goal.returns-clause-kept
