@@ -3,11 +3,12 @@ use Rattle.std.proofs.Common.{◌≡◌, ◌<◌, ◌+◌, ◌==◌, ◌&&◌, �
 use Rattle.std.specs.Prelude.{None, Some, Option}
 use Rattle.std.proofs.lemmas.Bool.{and_parts, and_from, lt-ltb}
 use Rattle.lr_base.specs.Bytes.{Bytes, are_bytes, each_may}
-use Rattle.lr_base.specs.Formats.{both, number_of, only_where, repeated}
+use Rattle.lr_base.specs.Formats.{both, known_test, leading, number_of, only_where, repeated}
+use Rattle.lr_base.specs.Kinds.{is_immediate}
 use Rattle.lr_base.specs.Limits.{most_replicas}
 use Rattle.lr_base.specs.Meaning.{Encoding, Meaning}
 use Rattle.lr_base.specs.Stamps.{Stamp, part}
-use Rattle.lr_base.specs.declared.bytes.BadWhat.TheVariants.{Magic}
+use Rattle.lr_base.specs.declared.bytes.BadWhat.TheVariants.{Magic, Order}
 use Rattle.lr_base.specs.declared.messages.Call.{Call}
 use Rattle.lr_base.specs.declared.messages.Entry.{Entry}
 use Rattle.lr_base.specs.declared.messages.LogAck.{LogAck}
@@ -16,9 +17,10 @@ use Rattle.lr_codec.specs.declared.items.Item.{Item}
 use Rattle.lr_codec.specs.declared.items.Item.TheVariants.{Update, Ack}
 use Rattle.lr_codec.specs.declared.state.StableState.{StableState}
 use Rattle.lr_codec.specs.Lists.{calls_format, entry_count_format, entry_format, item_format, log_format, marks_format}
-use Rattle.lr_codec.specs.Lists.{merged, order_format}
-use Rattle.lr_codec.specs.Parts.{byte_where, value_format}
+use Rattle.lr_codec.specs.Lists.{is_next_spot, merged, order_format, spot_format, tag_format}
+use Rattle.lr_codec.specs.Parts.{byte_where, cid_format, is_update, op_format, part_format, stamp_format, value_format}
 use Rattle.lr_codec.specs.Ranges.{is_in_ranges, unchecked, unchecked_values}
+use Rattle.lr_codec.specs.States.{free_cid_format, frozen_number_format, may_freeze}
 use Rattle.lr_codec.specs.States.{Whose, front_format, front_of, frozen_format, head_format, head_of, is_count_of}
 use Rattle.lr_codec.specs.States.{is_replica_of, lists_format, lists_of, magic, stamps_format, stamps_of, state_format}
 use Rattle.lr_codec.specs.States.{table_format, views_format, views_of}
@@ -36,8 +38,14 @@ module _ {V Op : Type 0} (m : Meaning V Op) (e : Encoding V) where
   ranged-items replicas rep_ts last [] may = refl
   ranged-items replicas rep_ts last (Update u ∷ items) may =
       let parts = and_parts _ _ may in
+      let op = (op_format m is_update).is_value u.op in
+      let label = (stamp_format (replicas + 1)).is_value u.prev in
+      let spot = leading tag_format (spot_format replicas rep_ts) in
+      let key = (only_where (λ key. is_next_spot last key.1) Order spot).is_value (1, u.spot) in
+      let behind = and_parts key (cid_format.is_value u.cid && (label && op)) parts.0 in
+      let rest = and_parts (cid_format.is_value u.cid) (label && op) behind.1 in
       let own : m.is_op u.op ≡ true =
-      (and_parts _ _ (and_parts _ _ (and_parts _ _ (and_parts _ _ parts.0).1).1).1).0 in
+        (and_parts (m.is_op u.op) (is_update (m.kind u.op)) (and_parts label op rest.1).1).0 in
       and_from _ _ (rw own at parts.0) (ranged-items replicas rep_ts (Some (Update u)) items parts.1)
   ranged-items replicas rep_ts last (Ack a ∷ items) may =
       let parts = and_parts _ _ may in
@@ -50,8 +58,18 @@ module _ {V Op : Type 0} (m : Meaning V Op) (e : Encoding V) where
   ranged-entries parts last [] may = refl
   ranged-entries parts last (entry ∷ entries) may =
       let each = and_parts _ _ may in
-      let behind = and_parts _ _ (and_parts _ _ (and_parts _ _ (and_parts _ _ each.0).1).1).1 in
-      let own : m.is_op entry.call.op ≡ true = (and_parts _ _ behind.0).0 in
+      let call = entry.call in
+      let op = (op_format m is_update).is_value call.op in
+      let flag = (known_test (is_immediate (m.kind call.op))).is_value entry.immediate in
+      let extra = (stamp_format parts).is_value entry.extra in
+      let label = (stamp_format parts).is_value call.prev in
+      let cid = cid_format.is_value call.cid in
+      let one = and_parts (part_format.is_value entry.birth) (cid && (label && (extra && (op && flag)))) each.0 in
+      let two = and_parts cid (label && (extra && (op && flag))) one.1 in
+      let three = and_parts label (extra && (op && flag)) two.1 in
+      let four = and_parts extra (op && flag) three.1 in
+      let own : m.is_op call.op ≡ true =
+        (and_parts (m.is_op call.op) (is_update (m.kind call.op)) (and_parts op flag four.1).0).0 in
       and_from _ _ (rw own at each.0) (ranged-entries parts (Some entry) entries each.1)
 
   -- and the call being frozen
@@ -61,8 +79,16 @@ module _ {V Op : Type 0} (m : Meaning V Op) (e : Encoding V) where
       → (frozen_format (unchecked m) parts opened received order).is_value frozen ≡ true
   ranged-frozen parts opened received order None may = refl
   ranged-frozen parts opened received order (Some numbered) may =
-      let own : m.is_op numbered.1.op ≡ true =
-      (and_parts _ _ (and_parts _ _ (and_parts _ _ (and_parts _ _ (and_parts _ _ may).1).1).1).1).0 in
+      let call = numbered.1 in
+      let op = (op_format m is_immediate).is_value call.op in
+      let label = (stamp_format parts).is_value call.prev in
+      let cid = (free_cid_format order.1).is_value call.cid in
+      let number = (frozen_number_format order).is_value numbered.0 in
+      let one = and_parts (may_freeze opened received order) (number && (cid && (label && op))) may in
+      let two = and_parts number (cid && (label && op)) one.1 in
+      let three = and_parts cid (label && op) two.1 in
+      let own : m.is_op call.op ≡ true =
+        (and_parts (m.is_op call.op) (is_immediate (m.kind call.op)) (and_parts label op three.1).1).0 in
       rw own at may
 
   -- and the log
@@ -95,7 +121,7 @@ module _ {V Op : Type 0} (m : Meaning V Op) (e : Encoding V) where
   ranged-front number whose s may =
       let n = s.replicas in
       let rest = both (views_format (head_of s)) (both (stamps_format (n + 1)) (table_format n)) in
-      let counts = nat_lt n 256 && (nat_le 1 n && (nat_le n most_replicas && is_count_of whose n)) in
+      let counts = nat_lt n 256 && (nat_le 1 n && nat_le n most_replicas && is_count_of whose n) in
       let places = nat_lt s.me 256 && (nat_lt s.me n && is_replica_of whose s.me) in
       let service = (byte_where (λ one. one == number)).is_value number in
       let sides = and_parts ((head_format number whose).is_value (head_of s))
@@ -104,8 +130,7 @@ module _ {V Op : Type 0} (m : Meaning V Op) (e : Encoding V) where
       (service && (counts && places)) sides.0 in
       let replica = and_parts counts places (and_parts service (counts && places) head.1).1 in
       let count = and_parts (nat_lt n 256) _ replica.0 in
-      let least = and_parts (nat_le 1 n) _ count.1 in
-      let counted : is_count_of whose n ≡ true = (and_parts (nat_le n most_replicas) _ least.1).1 in
+      let counted : is_count_of whose n ≡ true = (and_parts (nat_le 1 n && nat_le n most_replicas) _ count.1).1 in
       let place = and_parts (nat_lt s.me 256) _ replica.1 in
       let own : is_replica_of whose s.me ≡ true = (and_parts (nat_lt s.me n) _ place.1).1 in
       and_from _ _ (and_from _ _ head.0 (and_from _ _ (rw counted at replica.0) (rw own at replica.1))) sides.1

@@ -1,3 +1,4 @@
+use Rattle.std.proofs.Common.{arith}
 use Rattle.lr_base.specs.FormatLaws.{one_spelling-in}
 use Rattle.lr_codec.specs.StateLaws.{state-exact}
 use Rattle.lr_codec.specs.States.{state_format}
@@ -13,7 +14,7 @@ returns-in-Ok-clause-ranges g c =
     let format = state_format m e number c.args.whose in
     let exact = state-exact m g.S.Op.Operation.kind_of g.met.S.Service.lawful number c.args.whose in
     ranged-state m e number c.args.whose c.in-Ok.state
-    (one_spelling-in format exact bytes c.in-Ok.state (all-bytes bytes (λ i. c.type_inv.bytes i))
+    (one_spelling-in format exact bytes c.in-Ok.state (all-bytes bytes (λ i. omega (arith, c.type_inv.bytes i)))
     (c.in-Ok.ensures (format.field bytes) c.state_field.ensures)).1
 
 pub returns-in-Err-Bad-clause-read : goal.returns-in-Err-Bad-clause-read
