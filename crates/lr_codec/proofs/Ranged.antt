@@ -45,7 +45,7 @@ module _ {V Op : Type 0} (m : Meaning V Op) (e : Encoding V) where
       let behind = and_parts key (cid_format.is_value u.cid && (label && op)) parts.0 in
       let rest = and_parts (cid_format.is_value u.cid) (label && op) behind.1 in
       let own : m.is_op u.op ≡ true =
-        (and_parts (m.is_op u.op) (is_update (m.kind u.op)) (and_parts label op rest.1).1).0 in
+      (and_parts (m.is_op u.op) (is_update (m.kind u.op)) (and_parts label op rest.1).1).0 in
       and_from _ _ (rw own at parts.0) (ranged-items replicas rep_ts (Some (Update u)) items parts.1)
   ranged-items replicas rep_ts last (Ack a ∷ items) may =
       let parts = and_parts _ _ may in
@@ -69,7 +69,7 @@ module _ {V Op : Type 0} (m : Meaning V Op) (e : Encoding V) where
       let three = and_parts label (extra && (op && flag)) two.1 in
       let four = and_parts extra (op && flag) three.1 in
       let own : m.is_op call.op ≡ true =
-        (and_parts (m.is_op call.op) (is_update (m.kind call.op)) (and_parts op flag four.1).0).0 in
+      (and_parts (m.is_op call.op) (is_update (m.kind call.op)) (and_parts op flag four.1).0).0 in
       and_from _ _ (rw own at each.0) (ranged-entries parts (Some entry) entries each.1)
 
   -- and the call being frozen
@@ -88,7 +88,7 @@ module _ {V Op : Type 0} (m : Meaning V Op) (e : Encoding V) where
       let two = and_parts number (cid && (label && op)) one.1 in
       let three = and_parts cid (label && op) two.1 in
       let own : m.is_op call.op ≡ true =
-        (and_parts (m.is_op call.op) (is_immediate (m.kind call.op)) (and_parts label op three.1).1).0 in
+      (and_parts (m.is_op call.op) (is_immediate (m.kind call.op)) (and_parts label op three.1).1).0 in
       rw own at may
 
   -- and the log

@@ -12,5 +12,6 @@ use lr_base::lr_service::Service;
 pub fn states_have_one_spelling<S: Service>()
     ensures spelling { HasOneSpelling (state_format S.meaning S.encoding S.NUMBER None) }
     ensures ranges { (state : State S S.Op) → S.NUMBER < 256 → is_in_ranges S.meaning S.encoding state ≡ true
-        → is_own S.meaning S.encoding state ≡ true → (state_format S.meaning S.encoding S.NUMBER None).is_value state ≡ true }
+        → is_own S.meaning S.encoding state ≡ true
+        → (state_format S.meaning S.encoding S.NUMBER None).is_value state ≡ true }
 {}

@@ -151,7 +151,8 @@ fn spelling_field<S: Service>(
     size: u64,
     bytes: &[u8],
 ) -> Result<(S, &[u8]), FieldFault>
-    ensures { Reads (sized (λ bytes text rest. value_found bytes rest (S.encoding.decoded text)) size bytes.now) result }
+    ensures { Reads
+        (sized (λ bytes text rest. value_found bytes rest (S.encoding.decoded text)) size bytes.now) result }
 {
     if (bytes.len() as u64) < size {
         return Err(fault_at(bytes, BadWhat::Short));
