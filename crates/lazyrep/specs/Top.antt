@@ -1,10 +1,9 @@
--- To be believed: what the program's words, texts and exit statuses mean.
-use Rattle.std.specs.Prelude.{◌≡◌, ◌⊎◌, ◌++◌, ◌∷◌, [], ℕ, List, Option, String, string_bytes, codes}
+-- What the program's words, texts and exit statuses mean.
+use Rattle.std.specs.Prelude.{◌≡◌, ◌⊎◌, ◌++◌, ◌∷◌, [], ℕ, List, String, string_bytes, codes}
 use Rattle.std.specs.Fmt.{decimal}
-use Rattle.std.specs.Io.KnownBytes.{Appends}
 use Rattle.std.specs.declared.alloc.Global.{Global}
-use Rattle.lr_outside.specs.Faults.{Rose}
-use Rattle.lr_sim.specs.Ends.{IsComplete, SimEnded, SimMeans}
+use Rattle.lr_outside.specs.Seen.{HasTold, SinkChange, SourceChange}
+use Rattle.lr_sim.specs.Ends.{EndMeans, IsComplete}
 use Rattle.lr_sim.specs.declared.command.SimEnd.{SimEnd}
 use Rattle.lr_sim.specs.declared.command.SimEnd.TheVariants.{Ok as Done, Script, ReadFault, WriteFault, NoMemory}
 use Rattle.lr_script.specs.declared.refusals.Cause.{Cause}
@@ -12,7 +11,6 @@ use Rattle.lr_script.specs.declared.refusals.Cause.TheVariants.{TooLong, Unended
 use Rattle.lr_script.specs.declared.refusals.Cause.TheVariants.{Fields, Number, Range, Op}
 
 -- there are two words, and the second is `sim`
--- for example: `lazyrep sim`
 abbrev pub IsSim : List (String Global) → Type 0
 IsSim (program ∷ word ∷ []) = string_bytes word ≡ codes "sim"
 IsSim _ = ⊥
@@ -26,7 +24,6 @@ abbrev pub usage_text : List ℕ
 usage_text = text_line (codes "usage: lazyrep sim | run | gen NUMBER")
 
 -- what is wrong with a line, in words
--- for example: `too long`
 abbrev pub cause_text : Cause → List ℕ
 cause_text TooLong = codes "too long"
 cause_text Unended = codes "unended"
@@ -39,7 +36,6 @@ cause_text Range = codes "range"
 cause_text Op = codes "op"
 
 -- the exit status of a simulation's end
--- for example: 3, `lazyrep: line 2: op`
 abbrev pub code_of : SimEnd → ℕ
 code_of Done = 0
 code_of (Script number cause) = 3
@@ -60,23 +56,19 @@ text_of NoMemory = text_line (codes "lazyrep: no memory")
 abbrev pub IsCode : ℕ → Type 0
 IsCode code = (code ≡ 0) ⊎ (code ≡ 2) ⊎ (code ≡ 3) ⊎ (code ≡ 4) ⊎ (code ≡ 5) ⊎ (code ≡ 6)
 
--- this end was told on standard error where that didn't fail, or that there was no memory for a script's fault, and the
--- status says which
-pub record Told (err_before err_now : ℕ) (told_before told_now : Option (List ℕ))
-    (end : SimEnd) (code : ℕ) : Type 0 where
+-- this end was told on standard error, or that there was no memory for a script's fault, and the status says which
+pub record Told {Err : Type 0} (err : SinkChange Err) (end : SimEnd) (code : ℕ) : Type 0 where
   pub end_told : SimEnd
   pub same : (end_told ≡ end) ⊎ ((line : ℕ) × (cause : Cause) × (end ≡ Script line cause) × (end_told ≡ NoMemory))
   pub status : code ≡ code_of end_told
-  pub told : ¬ (Rose err_before err_now) → Appends told_before told_now (text_of end_told)
+  pub told : HasTold err (text_of end_told)
 
--- the exit status is that of an end of the simulation, which means what it says of the bytes left and held; where
--- neither source nor sink met a fault it is complete, and where standard error didn't fail that end was told there
-pub record SimStatus {Out : Type 0} (left_before left_now held_before held_now : Option (List ℕ))
-    (read_before read_now write_before write_now : ℕ) (out_before out_now : Out)
-    (err_before err_now : ℕ) (told_before told_now : Option (List ℕ)) (code : ℕ) : Type 0 where
+-- the exit status is that of an end of the simulation, which means what it says of source and sink, doesn't give up,
+-- and was told on standard error
+pub record SimStatus {Out Err : Type 0}
+    (source : SourceChange) (sink : SinkChange Out) (err : SinkChange Err) (code : ℕ) : Type 0 where
   pub end : SimEnd
-  pub meant : SimMeans left_before left_now held_before held_now end
-  pub ended : SimEnded read_before read_now write_before write_now out_before out_now end
-  pub complete : ¬ (Rose read_before read_now) → ¬ (Rose write_before write_now) → IsComplete left_before left_now end
+  pub meant : EndMeans source sink end
+  pub complete : IsComplete source sink end
   pub status : code ≡ code_of end
-  pub told : ¬ (Rose err_before err_now) → Appends told_before told_now (text_of end)
+  pub told : HasTold err (text_of end)

@@ -1,7 +1,6 @@
 //! The top call: which command the words name, what is told on standard error, and the exit status.
 ghost use Rattle.std.specs.Prelude.{◌≡◌, ◌↔◌, IsTrue, IfOk, string_bytes};
-ghost use Rattle.std.specs.Io.KnownBytes.{Appends};
-ghost use Rattle.lr_outside.specs.Faults.{Rose};
+ghost use Rattle.lr_outside.specs.Seen.{HasTold, sink_change, source_change};
 ghost use Rattle.lazyrep.specs.Top.{cause_text, IsCode, IsSim, SimStatus, text_of, Told, usage_text};
 
 #[cfg(test)]
@@ -39,12 +38,9 @@ pub fn lazyrep_top<R: Source, W: Sink, E: Sink>(
     ensures usage { (result.code ≡ 2) ↔ ¬ (IsSim words.now) }
     ensures unread { result.code ≡ 2 → input.new ≡ input.old }
     ensures unwritten { result.code ≡ 2 → out.new ≡ out.old }
-    ensures usage_told { result.code ≡ 2 → ¬ (Rose (E.faults err.old) (E.faults err.new))
-        → Appends (E.held err.old) (E.held err.new) usage_text }
-    ensures sim { IsSim words.now → SimStatus
-        (R.left input.old) (R.left input.new) (W.held out.old) (W.held out.new)
-        (R.faults input.old) (R.faults input.new) (W.faults out.old) (W.faults out.new) out.old out.new
-        (E.faults err.old) (E.faults err.new) (E.held err.old) (E.held err.new) result.code }
+    ensures usage_told { result.code ≡ 2 → HasTold (sink_change E.seen err.old err.new) usage_text }
+    ensures sim { IsSim words.now → SimStatus (source_change R.seen input.old input.new)
+        (sink_change W.seen out.old out.new) (sink_change E.seen err.old err.new) result.code }
 {
     if !is_sim(words) {
         return tell(err, USAGE, 2);
@@ -65,7 +61,7 @@ fn is_sim(words: &[String]) -> bool
 
 // Tells an end on standard error, and answers its status. Where there is no memory for the text, that is told instead.
 fn tell_end<E: Sink>(alloc: Global, end: SimEnd, err: &mut E) -> Status
-    ensures { Told (E.faults err.old) (E.faults err.new) (E.held err.old) (E.held err.new) end result.code }
+    ensures { Told (sink_change E.seen err.old err.new) end result.code }
 {
     match end {
         SimEnd::Ok => Status { code: 0 },
@@ -82,7 +78,7 @@ fn tell_end<E: Sink>(alloc: Global, end: SimEnd, err: &mut E) -> Status
 // Writes a text to standard error. A failing one changes nothing.
 fn tell<E: Sink>(err: &mut E, text: &[u8], code: u8) -> Status
     ensures code { result.code ≡ code }
-    ensures told { ¬ (Rose (E.faults err.old) (E.faults err.new)) → Appends (E.held err.old) (E.held err.new) text.now }
+    ensures told { HasTold (sink_change E.seen err.old err.new) text.now }
 {
     let _ = write_whole(err, text);
     Status { code }

@@ -1,14 +1,13 @@
 -- What the program's words, texts and exit statuses mean.
-use Rattle.std.specs.Prelude.{◌≡◌, ◌≤◌, ◌-◌, ◌^◌, ◌⊎◌, ◌++◌, ◌∷◌, [], ℕ, List, Option, String, string_bytes, codes}
+use Rattle.std.specs.Prelude.{◌≡◌, ◌≤◌, ◌-◌, ◌^◌, ◌⊎◌, ◌++◌, ◌∷◌, [], ℕ, List, String, string_bytes, codes}
 use Rattle.std.specs.Fmt.{decimal}
-use Rattle.std.specs.Io.KnownBytes.{Appends}
 use Rattle.std.specs.declared.alloc.Global.{Global}
-use Rattle.lr_outside.specs.Faults.{Rose}
+use Rattle.lr_outside.specs.Seen.{HasTold, SinkChange, SourceChange}
 use Rattle.lr_draw.specs.declared.command.DrawEnd.{DrawEnd}
 use Rattle.lr_draw.specs.declared.command.DrawEnd.TheVariants.{Ok as Done, Line, TooLong, ReadFault, WriteFault}
 use Rattle.lr_draw.specs.declared.command.DrawEnd.TheVariants.{NoMemory}
 use Rattle.lr_draw.specs.declared.history.Range.{Range}
-use Rattle.lr_draw.specs.Ends.{DrawEnded, DrawMeans}
+use Rattle.lr_draw.specs.Ends.{EndMeans}
 
 -- two words are the numbers of the first and of the last event
 -- for example: `draw 3 9`
@@ -60,25 +59,20 @@ text_of NoMemory = text_line (codes "draw: no memory")
 abbrev pub IsCode : ℕ → Type 0
 IsCode code = (code ≡ 0) ⊎ (code ≡ 2) ⊎ (code ≡ 3) ⊎ (code ≡ 4) ⊎ (code ≡ 5) ⊎ (code ≡ 6)
 
--- this end was told on standard error where that didn't fail, or that there was no memory for a bad line's text; and
--- the status says which
-pub record Told (err_before err_now : ℕ) (told_before told_now : Option (List ℕ))
-    (end : DrawEnd) (code : ℕ) : Type 0 where
+-- this end was told on standard error, or that there was no memory for a bad line's text, and the status says which
+pub record Told {Err : Type 0} (err : SinkChange Err) (end : DrawEnd) (code : ℕ) : Type 0 where
   pub end_told : DrawEnd
   pub same : (end_told ≡ end) ⊎ ((number : ℕ) × (end ≡ Line number) × (end_told ≡ NoMemory))
   pub status : code ≡ code_of end_told
-  pub told : ¬ (Rose err_before err_now) → Appends told_before told_now (text_of end_told)
+  pub told : HasTold err (text_of end_told)
 
 -- the exit status is that of an end of the drawing of the events that the words ask for, which means what it says of
--- the bytes left and held; where standard error didn't fail that end was told there
-pub record DrawStatus {Out : Type 0} (words : List (String Global))
-    (left_before left_now held_before held_now : Option (List ℕ))
-    (read_before read_now write_before write_now : ℕ) (out_before out_now : Out)
-    (err_before err_now : ℕ) (told_before told_now : Option (List ℕ)) (code : ℕ) : Type 0 where
+-- source and sink, and was told on standard error
+pub record DrawStatus {Out Err : Type 0} (words : List (String Global))
+    (source : SourceChange) (sink : SinkChange Out) (err : SinkChange Err) (code : ℕ) : Type 0 where
   pub range : Range
   pub asked : IsRange words range
   pub end : DrawEnd
-  pub meant : DrawMeans left_before left_now held_before held_now range end
-  pub ended : DrawEnded read_before read_now write_before write_now out_before out_now end
+  pub meant : EndMeans range source sink end
   pub status : code ≡ code_of end
-  pub told : ¬ (Rose err_before err_now) → Appends told_before told_now (text_of end)
+  pub told : HasTold err (text_of end)

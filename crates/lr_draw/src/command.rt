@@ -1,7 +1,8 @@
 //! Reads a history to its end, and writes its picture.
 ghost use Rattle.std.specs.Prelude.{◌≡◌, IfOk, IfErr};
 ghost use Rattle.lr_draw.specs.Drawings.{IsDrawing, IsUndrawn};
-ghost use Rattle.lr_draw.specs.Ends.{DrawEnded, DrawMeans, Means, refused_end, WriteEnded};
+ghost use Rattle.lr_draw.specs.Ends.{EndMeans, HasReadInput, refused_end};
+ghost use Rattle.lr_outside.specs.Seen.{sink_change, source_change, SourceChange};
 
 use crate::history::{DrawFault, Range};
 use crate::picture::draw_history;
@@ -37,9 +38,8 @@ pub fn draw_command<R: Source, W: Sink>(
     input: &mut R,
     out: &mut W,
 ) -> DrawEnd
-    ensures meant { DrawMeans (R.left input.old) (R.left input.new) (W.held out.old) (W.held out.new) range result }
-    ensures ended { DrawEnded (R.faults input.old) (R.faults input.new)
-        (W.faults out.old) (W.faults out.new) out.old out.new result }
+    ensures { EndMeans range
+        (source_change R.seen input.old input.new) (sink_change W.seen out.old out.new) result }
 {
     let bytes = match read_up_to(alloc, input, MOST_INPUT + 1) {
         Ok(bytes) => bytes,
@@ -49,10 +49,10 @@ pub fn draw_command<R: Source, W: Sink>(
     draw_bytes(alloc, bytes.as_slice(), range, out)
 }
 
-// Writes the picture of these events of the history that the bytes are.
+// Writes the picture of these events of the history that the bytes are, whatever they were read from.
 fn draw_bytes<W: Sink>(alloc: Global, bytes: &[u8], range: Range, out: &mut W) -> DrawEnd
-    ensures meant { Means range bytes.now (W.held out.old) (W.held out.new) result }
-    ensures ended { WriteEnded (W.faults out.old) (W.faults out.new) out.old out.new result }
+    ensures { (source : SourceChange) → HasReadInput source bytes.now
+        → EndMeans range source (sink_change W.seen out.old out.new) result }
 {
     match drawn(alloc, bytes, range) {
         Ok(text) => match write_whole(out, text.as_slice()) {

@@ -1,7 +1,6 @@
 //! The top call: which events the words ask for, what is told on standard error, and the exit status.
 ghost use Rattle.std.specs.Prelude.{◌≡◌, ◌↔◌, ◌≤◌, ◌-◌, ◌^◌, IfOk, IfSome, IsNone, string_bytes};
-ghost use Rattle.std.specs.Io.KnownBytes.{Appends};
-ghost use Rattle.lr_outside.specs.Faults.{Rose};
+ghost use Rattle.lr_outside.specs.Seen.{HasTold, sink_change, source_change};
 ghost use Rattle.lr_draw.specs.Top.{AreNumbers, DrawStatus, IsAsked, IsCode, IsRange, text_of, Told, usage_text};
 ghost use Rattle.lr_draw.specs.declared.history.Range.{Range};
 
@@ -43,12 +42,9 @@ pub fn draw_top<R: Source, W: Sink, E: Sink>(
     ensures usage { (result.code ≡ 2) ↔ ¬ (IsAsked words.now) }
     ensures unread { result.code ≡ 2 → input.new ≡ input.old }
     ensures unwritten { result.code ≡ 2 → out.new ≡ out.old }
-    ensures usage_told { result.code ≡ 2 → ¬ (Rose (E.faults err.old) (E.faults err.new))
-        → Appends (E.held err.old) (E.held err.new) usage_text }
-    ensures drawn { IsAsked words.now → DrawStatus words.now
-        (R.left input.old) (R.left input.new) (W.held out.old) (W.held out.new)
-        (R.faults input.old) (R.faults input.new) (W.faults out.old) (W.faults out.new) out.old out.new
-        (E.faults err.old) (E.faults err.new) (E.held err.old) (E.held err.new) result.code }
+    ensures usage_told { result.code ≡ 2 → HasTold (sink_change E.seen err.old err.new) usage_text }
+    ensures drawn { IsAsked words.now → DrawStatus words.now (source_change R.seen input.old input.new)
+        (sink_change W.seen out.old out.new) (sink_change E.seen err.old err.new) result.code }
 {
     let Some(range) = range_of(words) else {
         return tell(err, USAGE, 2);
@@ -94,7 +90,7 @@ fn numbered(first: &[u8], last: &[u8]) -> Option<Range>
 
 // Tells an end on standard error, and answers its status. Where there is no memory for the text, that is told instead.
 fn tell_end<E: Sink>(alloc: Global, end: DrawEnd, err: &mut E) -> Status
-    ensures { Told (E.faults err.old) (E.faults err.new) (E.held err.old) (E.held err.new) end result.code }
+    ensures { Told (sink_change E.seen err.old err.new) end result.code }
 {
     match end {
         DrawEnd::Ok => Status { code: 0 },
@@ -112,7 +108,7 @@ fn tell_end<E: Sink>(alloc: Global, end: DrawEnd, err: &mut E) -> Status
 // Writes a text to standard error. A failing one changes nothing.
 fn tell<E: Sink>(err: &mut E, text: &[u8], code: u8) -> Status
     ensures code { result.code ≡ code }
-    ensures told { ¬ (Rose (E.faults err.old) (E.faults err.new)) → Appends (E.held err.old) (E.held err.new) text.now }
+    ensures told { HasTold (sink_change E.seen err.old err.new) text.now }
 {
     let _ = write_whole(err, text);
     Status { code }

@@ -1,3 +1,4 @@
 pub mod Faults
+pub mod Seen
+pub mod Calls
 pub mod Memory
-pub mod Moved

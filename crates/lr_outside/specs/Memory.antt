@@ -1,6 +1,7 @@
 -- What contracts see of the sources and sinks in memory.
-use Rattle.std.specs.Prelude.{ℕ, Bool, List, ◌==◌}
+use Rattle.std.specs.Prelude.{ℕ, Bool, List, Some, ◌==◌}
 use Rattle.std.specs.List.{list_any}
+use Rattle.lr_outside.specs.Seen.{SinkSeen, SourceSeen}
 
 -- the bytes left, the numbers of the calls that are to fail, how many calls were made, and how many failed
 -- for example: `abc` left, call 2 is to fail
@@ -24,6 +25,18 @@ pub record BoundedStore : Type 0 where
   pub held : List ℕ
   pub room : ℕ
   pub faults : ℕ
+
+-- what is seen of a source in memory
+abbrev pub supply_seen : Supply → SourceSeen
+supply_seen supply = record { left = Some supply.left; faults = supply.faults }
+
+-- what is seen of a sink in memory
+abbrev pub store_seen : Store → SinkSeen
+store_seen store = record { held = Some store.held; faults = store.faults }
+
+-- what is seen of one with room for so many bytes
+abbrev pub bounded_seen : BoundedStore → SinkSeen
+bounded_seen store = record { held = Some store.held; faults = store.faults }
 
 -- whether the call of this number is one of those that are to fail
 -- for example: 2 among 2 and 5

@@ -16,17 +16,14 @@ pub struct Reading<R> {
 impl<R: Read> Reading<R> {
     /// A source over this reader, with no fault counted.
     pub fn new(inner: R) -> Self
-        ensures left { ⟦<Reading<R> as Source>⟧.left result ≡ R.remaining inner }
-        ensures faults { ⟦<Reading<R> as Source>⟧.faults result ≡ 0 }
+        ensures { ⟦<Reading<R> as Source>⟧.seen result ≡ record { left = R.remaining inner; faults = 0 } }
     {
         Reading { inner, faults: 0 }
     }
 }
 
 impl<R: Read> Source for Reading<R> {
-    ghost left = { λ reading. R.remaining reading.inner };
-
-    ghost faults = { λ reading. reading.faults };
+    ghost seen = { λ reading. record { left = R.remaining reading.inner; faults = reading.faults } };
 
     fn read(&mut self, into: &mut [u8]) -> Result<usize, Failed> {
         let Ok(count) = self.inner.read(into) else {
@@ -48,17 +45,14 @@ pub struct Writing<W> {
 impl<W: Write> Writing<W> {
     /// A sink over this writer, with no fault counted.
     pub fn new(inner: W) -> Self
-        ensures held { ⟦<Writing<W> as Sink>⟧.held result ≡ W.contents inner }
-        ensures faults { ⟦<Writing<W> as Sink>⟧.faults result ≡ 0 }
+        ensures { ⟦<Writing<W> as Sink>⟧.seen result ≡ record { held = W.contents inner; faults = 0 } }
     {
         Writing { inner, faults: 0 }
     }
 }
 
 impl<W: Write> Sink for Writing<W> {
-    ghost held = { λ writing. W.contents writing.inner };
-
-    ghost faults = { λ writing. writing.faults };
+    ghost seen = { λ writing. record { held = W.contents writing.inner; faults = writing.faults } };
 
     fn write(&mut self, piece: &[u8]) -> Result<usize, Failed> {
         if piece.is_empty() {

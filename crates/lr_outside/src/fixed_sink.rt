@@ -1,8 +1,9 @@
 //! A sink in memory with room for so many bytes.
-ghost use Rattle.std.specs.Prelude.{◌≡◌, ◌-◌, ◌<◌, ◌++◌, ◌↔◌, [], Some, length, min, take, IsErr, IfOk, OnErr};
-ghost use Rattle.std.specs.Io.{WritesAtMost};
-ghost use Rattle.std.specs.Io.KnownBytes.{WriteAppends};
-ghost use Rattle.lr_outside.specs.Faults.{HasCause, Rose, one_more};
+ghost use Rattle.std.specs.Prelude.{◌≡◌, ◌-◌, ◌<◌, ◌++◌, ◌↔◌, [], length, min, take, IsErr, IfOk, OnErr};
+ghost use Rattle.lr_outside.specs.Calls.{IsWriteCall};
+ghost use Rattle.lr_outside.specs.Faults.{one_more};
+ghost use Rattle.lr_outside.specs.Memory.{bounded_seen};
+ghost use Rattle.lr_outside.specs.Seen.{sink_change};
 
 use crate::sink::Sink;
 use crate::source::Failed;
@@ -52,16 +53,10 @@ impl FixedSink {
 }
 
 impl Sink for FixedSink {
-    ghost held = { λ sink. Some sink.held };
-
-    ghost faults = { λ sink. sink.faults };
+    ghost seen = { bounded_seen };
 
     fn write(&mut self, piece: &[u8]) -> Result<usize, Failed>
-        ensures bound { WritesAtMost result piece.now }
-        ensures bytes { WriteAppends (Some self.old.held) (Some self.new.held) result piece.now }
-        ensures cause { HasCause self.old.faults self.new.faults result }
-        ensures none_taken { result ≡ Ok 0 → 0 < length piece.now →
-            Rose self.old.faults self.new.faults }
+        ensures written { IsWriteCall (sink_change bounded_seen self.old self.new) result piece.now }
 
         // It takes as much as finds room, and fails just where nothing of a piece does.
         ensures empty { piece.now ≡ [] → result ≡ Ok 0 }

@@ -1,9 +1,9 @@
 //! A sink in memory, whose failures are known beforehand.
-ghost use Rattle.std.specs.Prelude.{◌≡◌, ◌<◌, ◌++◌, [], Some, length, IsTrue, IsErr, IfOk, OnOk, OnErr};
-ghost use Rattle.std.specs.Io.{WritesAtMost};
-ghost use Rattle.std.specs.Io.KnownBytes.{WriteAppends};
-ghost use Rattle.lr_outside.specs.Faults.{HasCause, Rose, one_more};
-ghost use Rattle.lr_outside.specs.Memory.{is_listed};
+ghost use Rattle.std.specs.Prelude.{◌≡◌, ◌++◌, [], length, IsTrue, IsErr, IfOk, OnOk, OnErr};
+ghost use Rattle.lr_outside.specs.Calls.{IsWriteCall};
+ghost use Rattle.lr_outside.specs.Faults.{one_more};
+ghost use Rattle.lr_outside.specs.Memory.{is_listed, store_seen};
+ghost use Rattle.lr_outside.specs.Seen.{sink_change};
 
 use crate::sink::Sink;
 use crate::source::Failed;
@@ -56,16 +56,10 @@ impl MemSink {
 }
 
 impl Sink for MemSink {
-    ghost held = { λ sink. Some sink.held };
-
-    ghost faults = { λ sink. sink.faults };
+    ghost seen = { store_seen };
 
     fn write(&mut self, piece: &[u8]) -> Result<usize, Failed>
-        ensures bound { WritesAtMost result piece.now }
-        ensures bytes { WriteAppends (Some self.old.held) (Some self.new.held) result piece.now }
-        ensures cause { HasCause self.old.faults self.new.faults result }
-        ensures none_taken { result ≡ Ok 0 → 0 < length piece.now →
-            Rose self.old.faults self.new.faults }
+        ensures written { IsWriteCall (sink_change store_seen self.old self.new) result piece.now }
 
         // The listed calls fail, and each other one takes the whole piece unless there is no memory.
         ensures listed { IsTrue (is_listed self.old.failing (one_more self.old.calls)) → IsErr result }

@@ -1,9 +1,9 @@
 //! A source in memory, whose failures are known beforehand.
-ghost use Rattle.std.specs.Prelude.{◌≡◌, ◌↔◌, Some, length, min, take, drop, IsTrue, IsErr, IfOk, OnErr};
-ghost use Rattle.std.specs.Io.{ReadsAtMost};
-ghost use Rattle.std.specs.Io.KnownBytes.{ReadConsumes};
-ghost use Rattle.lr_outside.specs.Faults.{HasCause, one_more};
-ghost use Rattle.lr_outside.specs.Memory.{is_listed};
+ghost use Rattle.std.specs.Prelude.{◌≡◌, ◌↔◌, length, min, take, drop, IsTrue, IsErr, IfOk, OnErr};
+ghost use Rattle.lr_outside.specs.Calls.{IsReadCall};
+ghost use Rattle.lr_outside.specs.Faults.{one_more};
+ghost use Rattle.lr_outside.specs.Memory.{is_listed, supply_seen};
+ghost use Rattle.lr_outside.specs.Seen.{source_change};
 
 use crate::source::{Failed, Source};
 use lr_base::Rows;
@@ -52,14 +52,10 @@ impl MemSource {
 }
 
 impl Source for MemSource {
-    ghost left = { λ source. Some source.left };
-
-    ghost faults = { λ source. source.faults };
+    ghost seen = { supply_seen };
 
     fn read(&mut self, into: &mut [u8]) -> Result<usize, Failed>
-        ensures bound { ReadsAtMost result into.new }
-        ensures bytes { ReadConsumes (Some self.old.left) (Some self.new.left) result into.new }
-        ensures cause { HasCause self.old.faults self.new.faults result }
+        ensures read { IsReadCall (source_change supply_seen self.old self.new) result into.new }
 
         // Just the listed calls fail, and each other one fills the buffer as far as the bytes reach.
         ensures listed { IsErr result ↔ IsTrue (is_listed self.old.failing (one_more self.old.calls)) }

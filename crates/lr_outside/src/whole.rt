@@ -1,8 +1,9 @@
 //! Reading up to a limit, and writing a piece whole.
-ghost use Rattle.std.specs.Prelude.{◌≡◌, ◌≢◌, ◌+◌, ◌≤◌, ◌<◌, ℕ, List, length, take, IfOk, OnOk, OnErr};
-ghost use Rattle.std.specs.Io.KnownBytes.{Appends, Consumes, IsAtEnd};
-ghost use Rattle.lr_outside.specs.Faults.{HasCause, Rose};
-ghost use Rattle.lr_outside.specs.Moved.{StillTaken};
+ghost use Rattle.std.specs.Prelude.{◌≡◌, ◌≢◌, ◌<◌, ℕ, List, length, take, IfOk, OnOk};
+ghost use Rattle.std.specs.Io.KnownBytes.{Consumes};
+ghost use Rattle.lr_outside.specs.Calls.{faults_read, HasRead, HasReadMore};
+ghost use Rattle.lr_outside.specs.Faults.{faults_after};
+ghost use Rattle.lr_outside.specs.Seen.{HasWritten, sink_change, source_change};
 
 use crate::sink::Sink;
 use crate::source::{Failed, Source};
@@ -23,12 +24,9 @@ pub enum ReadEnd {
 
 /// Reads the bytes left, up to so many. On an error the bytes that were read are lost.
 pub fn read_up_to<R: Source>(alloc: Global, input: &mut R, most: usize) -> Result<Rows<u8>, ReadEnd>
-    ensures most { IfOk result (λ bytes. length bytes ≤ most) }
-    ensures bytes { IfOk result (λ bytes. Consumes (R.left input.old) (R.left input.new) bytes) }
-    ensures end { IfOk result (λ bytes. length bytes < most → IsAtEnd (R.left input.new)) }
-    ensures prefix { (taken : List ℕ) × Consumes (R.left input.old) (R.left input.new) taken }
-    ensures failed { result ≡ Err ReadEnd.Failed → Rose (R.faults input.old) (R.faults input.new) }
-    ensures later { R.faults input.old ≤ R.faults input.new }
+    ensures read { IfOk result (HasRead most (source_change R.seen input.old input.new)) }
+    ensures prefix { (taken : List ℕ) × Consumes (R.seen input.old).left (R.seen input.new).left taken }
+    ensures counted { (R.seen input.new).faults ≡ faults_read (R.seen input.old).faults result }
 {
     let mut bytes = Rows::new(alloc);
     let mut buffer = make_buffer(alloc)?;
@@ -57,13 +55,9 @@ fn read_piece<R: Source>(
     bytes: &mut Rows<u8>,
 ) -> Result<usize, ReadEnd>
     requires { 0 < length buffer.old }
-    ensures most { IfOk result (λ n. n ≤ most) }
-    ensures grown { IfOk result (λ n. length bytes.new ≡ length bytes.old + n) }
-    ensures taken { OnOk result (StillTaken bytes.old bytes.new (R.left input.old) (R.left input.new)) }
-    ensures end { result ≡ Ok 0 → 0 < most → IsAtEnd (R.left input.new) }
-    ensures prefix { (piece : List ℕ) × Consumes (R.left input.old) (R.left input.new) piece }
-    ensures failed { result ≡ Err ReadEnd.Failed → Rose (R.faults input.old) (R.faults input.new) }
-    ensures later { R.faults input.old ≤ R.faults input.new }
+    ensures more { IfOk result (HasReadMore most (source_change R.seen input.old input.new) bytes.old bytes.new) }
+    ensures prefix { (piece : List ℕ) × Consumes (R.seen input.old).left (R.seen input.new).left piece }
+    ensures counted { (R.seen input.new).faults ≡ faults_read (R.seen input.old).faults result }
 {
     let room = buffer.len().min(most);
     let window = &mut buffer[..room];
@@ -78,16 +72,13 @@ fn read_piece<R: Source>(
 
 /// Writes all bytes of the piece, in as many writes as it takes. On an error some first bytes of it may be written.
 pub fn write_whole<W: Sink>(out: &mut W, piece: &[u8]) -> Result<(), Failed>
-    ensures whole { OnOk result (Appends (W.held out.old) (W.held out.new) piece.now) }
-    ensures prefix { (n : ℕ) × Appends (W.held out.old) (W.held out.new) (take n piece.now) }
-    ensures cause { HasCause (W.faults out.old) (W.faults out.new) result }
+    ensures whole { OnOk result (HasWritten (sink_change W.seen out.old out.new) piece.now) }
+    ensures prefix { (n : ℕ) × HasWritten (sink_change W.seen out.old out.new) (take n piece.now) }
+    ensures counted { (W.seen out.new).faults ≡ faults_after (W.seen out.old).faults result }
 {
     let mut at = 0;
     while at < piece.len() {
         let count = out.write(&piece[at..])?;
-        if count == 0 {
-            return Err(Failed);
-        }
         at += count;
     }
     Ok(())

@@ -1,22 +1,23 @@
 -- What an end says, from what was said of the parts.
-use Rattle.std.proofs.Common.{◌≡◌, ◌≢◌, ◌≤◌, ◌<◌, ◌⊎◌, ◌↔◌, inl, inr, ℕ, List, [], length, Option, Result, Ok, refl, sym, ap, subst, ◌∙◌}
-use Rattle.std.proofs.KnownBytes.{Appends-nil}
-use Rattle.std.specs.Io.KnownBytes.{Appends}
+use Rattle.std.proofs.Common.{◌≡◌, ◌≤◌, ◌⊎◌, inl, inr, ℕ, List, [], length, Option, Result, Ok, Err, refl, sym, subst, ◌∙◌, arith}
 use Rattle.lr_base.specs.Meaning.{Meaning}
 use Rattle.lr_base.specs.declared.events.Event.{Event}
-use Rattle.lr_script.specs.Faults.{IsBadAt, IsBadHead, IsHeadFault, IsRefusal, IsRefused, IsScriptFault}
+use Rattle.lr_outside.specs.Faults.{Rose, one_more}
+use Rattle.lr_outside.specs.Seen.{SinkChange, SinkSeen, SourceChange, sink_change}
+use Rattle.lr_script.specs.Faults.{IsBadAt, IsBadHead, IsHeadFault, IsRefusal, IsScriptFault}
 use Rattle.lr_script.specs.declared.refusals.Cause.{Cause}
-use Rattle.lr_script.specs.declared.refusals.Cause.TheVariants.{TooLong}
 use Rattle.lr_script.specs.declared.refusals.ScriptFault.{ScriptFault}
 use Rattle.lr_script.specs.declared.refusals.ScriptFault.TheVariants.{Line, NoMemory as NoMemoryLeft}
-use Rattle.lr_script.specs.Script.{HasHeader, IsNamed, IsScript, events_text}
-use Rattle.lr_script.specs.Texts.{service_number}
+use Rattle.lr_script.specs.Script.{HasHeader, IsScript, events_text}
 use Rattle.lr_script.specs.declared.heading.Header.{Header}
 use Rattle.lr_script.specs.declared.heading.Name.{Name}
 use Rattle.lr_script.specs.declared.heading.Name.TheVariants.{Tally, Mail, Claims}
-use Rattle.lr_sim.specs.Headline.{HasBegun, HasPrinted}
-use Rattle.lr_sim.specs.Ends.{HasRead, HasRunOf, HasRunPart, HasRunPartOf, IsBadBehind, IsComplete, IsDoneFor, IsFault, IsNoScriptOf, IsRefusedFor, Means, MeansOf, no_memory, was_read}
+use Rattle.lr_sim.specs.Ends.{EndMeans, HasReadInput, IsComplete, IsDoneFor, IsNoScriptOf, IsRefusedFor}
+use Rattle.lr_sim.specs.Headline.{HasBegun, HasPrinted, HasRunOf, HasRunPartOf}
+use Rattle.lr_sim.specs.Parts.{EndMeansOf, IsFault, faults_run}
 use Rattle.lr_sim.specs.Services.{HoldsOf}
+use Rattle.lr_sim.specs.declared.command.RunFault.{RunFault}
+use Rattle.lr_sim.specs.declared.command.RunFault.TheVariants.{Write}
 use Rattle.lr_sim.specs.declared.command.SimEnd.{SimEnd}
 use Rattle.lr_sim.specs.declared.command.SimEnd.TheVariants.{Ok as Done, Script, ReadFault, WriteFault, NoMemory}
 use Rattle.svc_claims.specs.Claims.{claims}
@@ -25,19 +26,31 @@ use Rattle.svc_tally.specs.Tally.{tally}
 
 module _ {Value Op : Type 0} (m : Meaning Value Op) where
   -- the history of a script's events was written, whole
-  pub run-whole : (header : Header) (bytes : List ℕ) (events slice : List (Event Op)) (before now : Option (List ℕ)) → IsScript m header events bytes → slice ≡ events → HasPrinted m header slice before now [] → HasRunOf m header bytes before now
-  run-whole header bytes events slice before now script is printed = record { events = events; script = script; printed_all = subst (λ (es : List (Event Op)). HasPrinted m header es before now []) is printed }
+  pub run-whole : {header : Header} {bytes : List ℕ} {events slice : List (Event Op)} {before now : Option (List ℕ)}
+      → IsScript m header events bytes → slice ≡ events → HasPrinted m header slice before now []
+      → HasRunOf m header bytes before now
+  run-whole {header} {bytes} {events} {slice} {before} {now} script is printed = record {
+    events = events;
+    script = script;
+    printed_all = subst (λ (es : List (Event Op)). HasPrinted m header es before now []) is printed;
+  }
 
   -- or in part
-  pub run-part : (header : Header) (bytes : List ℕ) (events slice : List (Event Op)) (before now : Option (List ℕ)) → IsScript m header events bytes → slice ≡ events → HasBegun m header slice before now → HasRunPartOf m header bytes before now
-  run-part header bytes events slice before now script is begun = record { events = events; script = script; printed_part = subst (λ (es : List (Event Op)). HasBegun m header es before now) is begun }
+  pub run-part : {header : Header} {bytes : List ℕ} {events slice : List (Event Op)} {before now : Option (List ℕ)}
+      → IsScript m header events bytes → slice ≡ events → HasBegun m header slice before now
+      → HasRunPartOf m header bytes before now
+  run-part {header} {bytes} {events} {slice} {before} {now} script is begun = record {
+    events = events;
+    script = script;
+    printed_part = subst (λ (es : List (Event Op)). HasBegun m header es before now) is begun;
+  }
 
   -- a script's bytes begin with its header's line
   script-has : (header : Header) (events : List (Event Op)) (bytes : List ℕ) → IsScript m header events bytes → HasHeader header bytes
   script-has header events bytes is = record { valid = is.valid; rest = events_text m events; text = is.text }
 
 -- what holds of a service's meaning holds of that which its name names
-holds-at : (P : (Value Op : Type 0) → Meaning Value Op → Type 0) (name named : Name) → name ≡ named → HoldsOf P named → HoldsOf P name
+pub holds-at : (P : (Value Op : Type 0) → Meaning Value Op → Type 0) (name named : Name) → name ≡ named → HoldsOf P named → HoldsOf P name
 holds-at P name named is holds = subst (λ (n : Name). HoldsOf P n) (sym is) holds
 
 -- what follows for each meaning follows for that of a name
@@ -52,101 +65,98 @@ holds-each P each Tally = each _ _ tally
 holds-each P each Mail = each _ _ mail
 holds-each P each Claims = each _ _ claims
 
+either : {A B C : Type 0} → (B → C) → A ⊎ B → A ⊎ C
+either f (inl a) = inl a
+either f (inr b) = inr (f b)
+
 module _ (header : Header) (bytes : List ℕ) (has : HasHeader header bytes) (one : (other : Header) → HasHeader other bytes → other ≡ header) where
-  -- bytes that begin with a header's line begin with that of no other service
-  one-service : (named name : Name) → header.service ≡ named → (other : Header) → other.service ≡ name → HasHeader other bytes → named ≡ name
-  one-service named name is other e begins = sym is ∙ ap (λ (h : Header). h.service) (sym (one other begins)) ∙ e
+  -- only bytes that begin with a header's line could be a script with it
+  no-script : (other : Header) (name : Name) → (HasHeader other bytes → HoldsOf (λ V O m. IsNoScriptOf m other bytes) name)
+      → HoldsOf (λ V O m. IsNoScriptOf m other bytes) name
+  no-script other Tally none = λ events script. none (script-has tally other events bytes script) events script
+  no-script other Mail none = λ events script. none (script-has mail other events bytes script) events script
+  no-script other Claims none = λ events script. none (script-has claims other events bytes script) events script
 
-  -- bytes that are no script of the service that their header names are no script of any
-  no-other : (named : Name) → header.service ≡ named → HoldsOf (λ V O m. (other : Header) → IsNoScriptOf m other bytes) named → (other : Header) (name : Name) → other.service ≡ name → HoldsOf (λ V O m. IsNoScriptOf m other bytes) name
-  no-other Tally is none other Tally e = none other
-  no-other Mail is none other Mail e = none other
-  no-other Claims is none other Claims e = none other
-  no-other Tally is none other Mail e = λ events script. let no : Tally ≡ Mail = one-service Tally Mail is other e (script-has mail other events bytes script) in cc
-  no-other Tally is none other Claims e = λ events script. let no : Tally ≡ Claims = one-service Tally Claims is other e (script-has claims other events bytes script) in cc
-  no-other Mail is none other Tally e = λ events script. let no : Mail ≡ Tally = one-service Mail Tally is other e (script-has tally other events bytes script) in cc
-  no-other Mail is none other Claims e = λ events script. let no : Mail ≡ Claims = one-service Mail Claims is other e (script-has claims other events bytes script) in cc
-  no-other Claims is none other Tally e = λ events script. let no : Claims ≡ Tally = one-service Claims Tally is other e (script-has tally other events bytes script) in cc
-  no-other Claims is none other Mail e = λ events script. let no : Claims ≡ Mail = one-service Claims Mail is other e (script-has mail other events bytes script) in cc
+  -- what the header's service means, and that what holds of it holds of what the header's name stands for
+  module _ {Value Op : Type 0} (m : Meaning Value Op)
+      (named : (P : (V O : Type 0) → Meaning V O → Type 0) → P Value Op m → HoldsOf P header.service) where
+    -- a refusal for the service that the header names is one of the bytes
+    refused-for : (line : ℕ) (cause : Cause) → IsRefusal m bytes line cause → IsRefusedFor bytes line cause
+    refused-for line cause r = record {
+      meaningless = λ other. no-script other other.service (λ begins.
+          subst (λ (h : Header). HoldsOf (λ V O m. IsNoScriptOf m h bytes) h.service) (sym (one other begins))
+          (named (λ V O m. IsNoScriptOf m header bytes) (r.meaningless header)));
+      fault = either (λ bad. record { header = header; has = has; bad = named (λ V O m. IsBadAt m bytes line cause) bad }) r.fault;
+      long = r.long;
+    }
 
-  -- a refusal for the service that the header names is one of the bytes
-  refused-for : (named : Name) → header.service ≡ named → (line : ℕ) (cause : Cause) → HoldsOf (λ V O m. IsRefusal m bytes line cause) named → IsRefusedFor bytes line cause
-  refused-for named is line cause refusal = record {
-    meaningless = λ other. no-other named is (holds-map (λ V O m. IsRefusal m bytes line cause) (λ V O m. (other : Header) → IsNoScriptOf m other bytes) (λ V O m r. r.meaningless) named refusal) other other.service refl;
-    fault = at-fault named is refusal;
-    long = at-long named refusal;
-  }
-    where
-      bad-behind : (named : Name) → header.service ≡ named → HoldsOf (λ V O m. IsBadAt m bytes line cause) named → IsBadBehind bytes line cause
-      bad-behind named is bad = record { header = header; has = has; bad = holds-at (λ V O m. IsBadAt m bytes line cause) header.service named is bad }
-
-      either : {A B C : Type 0} → (B → C) → A ⊎ B → A ⊎ C
-      either f (inl a) = inl a
-      either f (inr b) = inr (f b)
-
-      at-fault : (named : Name) → header.service ≡ named → HoldsOf (λ V O m. IsRefusal m bytes line cause) named → IsBadHead bytes line cause ⊎ IsBadBehind bytes line cause
-      at-fault Tally is r = either (bad-behind Tally is) r.fault
-      at-fault Mail is r = either (bad-behind Mail is) r.fault
-      at-fault Claims is r = either (bad-behind Claims is) r.fault
-
-      at-long : (named : Name) → HoldsOf (λ V O m. IsRefusal m bytes line cause) named → (cause ≡ TooLong) ↔ (8388608 < length bytes)
-      at-long Tally r = r.long
-      at-long Mail r = r.long
-      at-long Claims r = r.long
-
-  -- what an end means for the service that the header names it means of the bytes
-  pub means-named : (named : Name) → header.service ≡ named → (before now : Option (List ℕ)) (end : SimEnd) → HoldsOf (λ V O m. MeansOf m header bytes before now end) named → Means bytes before now end
-  means-named named is before now Done means = record { header = header; run = holds-at (λ V O m. HasRunOf m header bytes before now) header.service named is means }
-  means-named named is before now (Script line cause) means = refused-for named is line cause means
-  means-named Tally is before now ReadFault means = means
-  means-named Mail is before now ReadFault means = means
-  means-named Claims is before now ReadFault means = means
-  means-named named is before now WriteFault means = record { header = header; part = holds-at (λ V O m. HasRunPartOf m header bytes before now) header.service named is means }
-  means-named named is before now NoMemory means = at-end named is means
-    where
-      part : (named : Name) → header.service ≡ named → HoldsOf (λ V O m. HasRunPartOf m header bytes before now) named → HasRunPart bytes before now
-      part named is holds = record { header = header; part = holds-at (λ V O m. HasRunPartOf m header bytes before now) header.service named is holds }
-
-      either : {A B C : Type 0} → (B → C) → A ⊎ B → A ⊎ C
-      either f (inl a) = inl a
-      either f (inr b) = inr (f b)
-
-      at-end : (named : Name) → header.service ≡ named → HoldsOf (λ V O m. MeansOf m header bytes before now NoMemory) named → Appends before now [] ⊎ HasRunPart bytes before now
-      at-end Tally is means = either (part Tally is) means
-      at-end Mail is means = either (part Mail is) means
-      at-end Claims is means = either (part Claims is) means
+    -- what an end means for the service that the header names it means for the source that the bytes were read from
+    pub means-named : {Out : Type 0} (source : SourceChange) (sink : SinkChange Out) (end : SimEnd) → HasReadInput source bytes
+        → EndMeansOf m header bytes sink end → EndMeans source sink end
+    means-named source sink Done read means =
+        (bytes, read, record { header = header; run = named (λ V O m. HasRunOf m header bytes sink.before.held sink.after.held) means.0 }, means.1)
+    means-named source sink (Script line cause) read means = (bytes, read, refused-for line cause means.0, means.1)
+    means-named source sink ReadFault read means = absurd means
+    means-named source sink WriteFault read means =
+        (bytes, read, record { header = header; part = named (λ V O m. HasRunPartOf m header bytes sink.before.held sink.after.held) means.0 }, means.1)
+    means-named source sink NoMemory read means = (
+      read.unfailed,
+      means.0,
+      either (λ part.
+          (bytes, read, record { header = header; part = named (λ V O m. HasRunPartOf m header bytes sink.before.held sink.after.held) part })) means.1,
+    )
 
 -- a header that was read is the only one that the bytes begin with
-pub one-header : (header : Header) (bytes : List ℕ) (result : Result Header ScriptFault) → result ≡ Ok header → length bytes ≤ 8388608 → ((other : Header) → HasHeader other bytes × (length bytes ≤ 8388608) → result ≡ Ok other) → (other : Header) → HasHeader other bytes → other ≡ header
+pub one-header : (header : Header) (bytes : List ℕ) (result : Result Header ScriptFault) → result ≡ Ok header
+    → length bytes ≤ 8388608
+    → ((other : Header) → HasHeader other bytes × (length bytes ≤ 8388608) → result ≡ Ok other)
+    → (other : Header) → HasHeader other bytes → other ≡ header
 one-header header bytes result is short reads other begins =
     let same : Ok other ≡ Ok header = sym (reads other (begins, short)) ∙ is in
     cc
 
--- a header that was not read ends the simulation
-pub head-means : (bytes : List ℕ) (before : Option (List ℕ)) (fault : ScriptFault) (end : SimEnd)
+-- a header that was not read ends the simulation, with nothing written
+pub head-means : {Out : Type 0} (seen : Out → SinkSeen) (out : Out) (source : SourceChange) (bytes : List ℕ) (fault : ScriptFault) (end : SimEnd)
     → ((name : Name) (line : ℕ) (cause : Cause) → IsBadHead bytes line cause → HoldsOf (λ V O m. IsRefusal m bytes line cause) name)
-    → IsFault fault end → IsHeadFault bytes fault → Means bytes before before end
-head-means bytes before (Line line cause) end refusals is bad = subst (λ (e : SimEnd). Means bytes before before e) (sym is) refused
+    → IsFault fault end → IsHeadFault bytes fault → HasReadInput source bytes → EndMeans source (sink_change seen out out) end
+head-means seen out source bytes (Line line cause) end refusals is bad read =
+    subst (λ (e : SimEnd). EndMeans source (sink_change seen out out) e) (sym is) (bytes, read, refused, refl)
   where
-    long : IsRefusal tally bytes line cause → (cause ≡ TooLong) ↔ (8388608 < length bytes)
-    long r = r.long
+    refusal : IsRefusal tally bytes line cause
+    refusal = refusals Tally line cause bad
 
     refused : IsRefusedFor bytes line cause
     refused = record {
-      meaningless = λ other. holds-map (λ V O m. IsRefusal m bytes line cause) (λ V O m. IsNoScriptOf m other bytes) (λ V O m r. r.meaningless other) other.service (refusals other.service line cause bad);
+      meaningless = λ other. holds-map (λ V O m. IsRefusal m bytes line cause) (λ V O m. IsNoScriptOf m other bytes)
+          (λ V O m r. r.meaningless other) other.service (refusals other.service line cause bad);
       fault = inl bad;
-      long = long (refusals Tally line cause bad);
+      long = refusal.long;
     }
-head-means bytes before NoMemoryLeft end refusals is bad = subst (λ (e : SimEnd). Means bytes before before e) (sym is) (inl (Appends-nil before))
+head-means seen out source bytes NoMemoryLeft end refusals is bad read =
+    subst (λ (e : SimEnd). EndMeans source (sink_change seen out out) e) (sym is) (read.unfailed, refl, inl refl)
 
--- a simulation that met no fault of source or sink is done where the bytes have a meaning
-pub complete-from : (left_before left_now before now : Option (List ℕ)) (bytes : List ℕ) → HasRead left_before left_now bytes → (end : SimEnd) → Means bytes before now end → end ≢ ReadFault → end ≢ WriteFault → IsComplete left_before left_now end
-complete-from left_before left_now before now bytes read Done means no_read no_write = was_read bytes read (λ header. holds-each (λ V O m. IsDoneFor m header bytes Done) (λ V O m events script. refl) header.service)
-complete-from left_before left_now before now bytes read (Script line cause) means no_read no_write = was_read bytes read (λ header.
-    holds-map (λ V O m. IsNoScriptOf m header bytes) (λ V O m. IsDoneFor m header bytes (Script line cause)) (λ V O m none events script. absurd (none events script)) header.service (means.meaningless header))
-complete-from left_before left_now before now bytes read ReadFault means no_read no_write = absurd (no_read refl)
-complete-from left_before left_now before now bytes read WriteFault means no_read no_write = absurd (no_write refl)
-complete-from left_before left_now before now bytes read NoMemory means no_read no_write = no_memory refl
+-- a run that a write ended counted one fault more
+pub write-fault : (T : Type 0) (before : ℕ) {now : ℕ} {fault : RunFault} → fault ≡ Write
+    → now ≡ faults_run {T = T} before (Err fault) → now ≡ one_more before
+write-fault T before {now} {fault} is counted = subst (λ (f : RunFault). now ≡ faults_run {T = T} before (Err f)) is counted
+
+-- one more fault is a rise
+rose : (before now : ℕ) → now ≡ one_more before → Rose before now
+rose before now is = omega (arith, is)
+
+-- each end says that the simulation didn't give up
+pub complete-from : {Out : Type 0} (source : SourceChange) (sink : SinkChange Out) (end : SimEnd) → EndMeans source sink end → IsComplete source sink end
+complete-from source sink Done means no_read no_write memory =
+    (means.0, means.1, λ header. holds-each (λ V O m. IsDoneFor m header means.0 Done) (λ V O m events script. refl) header.service)
+complete-from source sink (Script line cause) means no_read no_write memory = (
+  means.0,
+  means.1,
+  λ header. holds-map (λ V O m. IsNoScriptOf m header means.0) (λ V O m. IsDoneFor m header means.0 (Script line cause))
+      (λ V O m none events script. absurd (none events script)) header.service (means.2.meaningless header),
+)
+complete-from source sink ReadFault means no_read no_write memory = absurd (no_read (rose _ _ means.0))
+complete-from source sink WriteFault means no_read no_write memory = absurd (no_write (rose _ _ means.3))
+complete-from source sink NoMemory means no_read no_write memory = absurd (memory refl)
 
 -- each service refuses what has no header
 pub refusals-of : (bytes : List ℕ)

@@ -1,4 +1,4 @@
 pub mod Headline
-pub mod Moved
 pub mod Ends
 pub mod Services
+pub mod Parts

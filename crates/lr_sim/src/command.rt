@@ -1,15 +1,16 @@
 //! The command `sim`: reads a script to its end, runs it, and writes its history.
-ghost use Rattle.std.specs.Prelude.{ℕ, List, [], ◌≡◌, ◌≤◌, ◌++◌, OnOk, OnErr};
+ghost use Rattle.std.specs.Prelude.{ℕ, List, [], ◌≡◌, ◌++◌, OnOk};
 ghost use Rattle.lr_base.specs.Events.{FitsRun};
 ghost use Rattle.lr_graph.specs.Made.{made_step};
 ghost use Rattle.lr_graph.specs.Runs.{stepped};
-ghost use Rattle.lr_outside.specs.Faults.{Rose};
+ghost use Rattle.lr_outside.specs.Faults.{faults_after};
+ghost use Rattle.lr_outside.specs.Seen.{sink_change, source_change, SourceChange};
 ghost use Rattle.lr_report.specs.Printed.{step_text};
 ghost use Rattle.lr_script.specs.Script.{HasHeader, IsNamed, IsScript};
 ghost use Rattle.lr_script.specs.Texts.{event_text};
-ghost use Rattle.lr_sim.specs.Ends.{IsComplete, IsFault, Means, MeansOf, RunEnded, SimEnded, SimMeans};
+ghost use Rattle.lr_sim.specs.Ends.{EndMeans, HasReadInput, IsComplete};
 ghost use Rattle.lr_sim.specs.Headline.{HasBegun, HasPrinted};
-ghost use Rattle.lr_sim.specs.Moved.{HasMoved};
+ghost use Rattle.lr_sim.specs.Parts.{EndMeansOf, faults_run, HasMoved, IsFault};
 ghost use Rattle.lr_world.specs.Worlds.{run_of, setup_of};
 
 use lr_base::lr_service::Service;
@@ -50,12 +51,9 @@ pub enum SimEnd {
 
 /// Reads a script to its end, runs it, and writes its history.
 pub fn sim_command<R: Source, W: Sink>(alloc: Global, input: &mut R, out: &mut W) -> SimEnd
-    ensures meant { SimMeans (R.left input.old) (R.left input.new) (W.held out.old) (W.held out.new) result }
-    ensures ended { SimEnded (R.faults input.old) (R.faults input.new)
-        (W.faults out.old) (W.faults out.new) out.old out.new result }
-    ensures complete { ¬ (Rose (R.faults input.old) (R.faults input.new))
-        → ¬ (Rose (W.faults out.old) (W.faults out.new))
-        → IsComplete (R.left input.old) (R.left input.new) result }
+    ensures meant { EndMeans (source_change R.seen input.old input.new) (sink_change W.seen out.old out.new) result }
+    ensures complete { IsComplete
+        (source_change R.seen input.old input.new) (sink_change W.seen out.old out.new) result }
 {
     let bytes = match read_up_to(alloc, input, MOST_INPUT) {
         Ok(bytes) => bytes,
@@ -65,10 +63,10 @@ pub fn sim_command<R: Source, W: Sink>(alloc: Global, input: &mut R, out: &mut W
     simulate(alloc, bytes.as_slice(), out)
 }
 
-// Runs the script that the bytes are.
+// Runs the script that the bytes are, whatever they were read from.
 fn simulate<W: Sink>(alloc: Global, bytes: &[u8], out: &mut W) -> SimEnd
-    ensures meant { Means bytes.now (W.held out.old) (W.held out.new) result }
-    ensures ended { RunEnded (W.faults out.old) (W.faults out.new) out.old out.new result }
+    ensures { (source : SourceChange) → HasReadInput source bytes.now
+        → EndMeans source (sink_change W.seen out.old out.new) result }
 {
     what_is_refused_means_nothing::<Tally>();
     what_is_refused_means_nothing::<Mail>();
@@ -101,8 +99,7 @@ fn simulate_script<S: Service, W: Sink>(
 ) -> SimEnd
     requires header { HasHeader header.now bytes.now }
     requires named { IsNamed S.NUMBER bytes.now }
-    ensures meant { MeansOf S.meaning header.now bytes.now (W.held out.old) (W.held out.new) result }
-    ensures ended { RunEnded (W.faults out.old) (W.faults out.new) out.old out.new result }
+    ensures { EndMeansOf S.meaning header.now bytes.now (sink_change W.seen out.old out.new) result }
 {
     what_is_refused_means_nothing::<S>();
     match read_script::<S>(alloc, bytes) {
@@ -154,10 +151,10 @@ fn write_history<S: Service, W: Sink>(
     out: &mut W,
 ) -> Result<(), RunFault>
     requires { IsScript S.meaning header.now events.now bytes.now }
-    ensures whole { OnOk result (HasPrinted S.meaning header.now events.now (W.held out.old) (W.held out.new) []) }
-    ensures part { HasBegun S.meaning header.now events.now (W.held out.old) (W.held out.new) }
-    ensures write { result ≡ Err RunFault.Write → Rose (W.faults out.old) (W.faults out.new) }
-    ensures later { W.faults out.old ≤ W.faults out.new }
+    ensures whole { OnOk result
+        (HasPrinted S.meaning header.now events.now (W.seen out.old).held (W.seen out.new).held []) }
+    ensures part { HasBegun S.meaning header.now events.now (W.seen out.old).held (W.seen out.new).held }
+    ensures counted { (W.seen out.new).faults ≡ faults_run (W.seen out.old).faults result }
 {
     a_made_history_goes_on::<S>();
     what_is_made_is_legal::<S>();
@@ -200,10 +197,9 @@ fn make_step<S: Service>(
 
 // Writes the gathered text, if it is enough for a piece.
 fn write_full<W: Sink>(text: &mut Text, out: &mut W) -> Result<(), Failed>
-    ensures moved { OnOk result (HasMoved (W.held out.old) (W.held out.new) text.old text.new) }
-    ensures part { (left : List ℕ) × HasMoved (W.held out.old) (W.held out.new) text.old left }
-    ensures cause { OnErr result (Rose (W.faults out.old) (W.faults out.new)) }
-    ensures later { W.faults out.old ≤ W.faults out.new }
+    ensures moved { OnOk result (HasMoved (W.seen out.old).held (W.seen out.new).held text.old text.new) }
+    ensures part { (left : List ℕ) × HasMoved (W.seen out.old).held (W.seen out.new).held text.old left }
+    ensures counted { (W.seen out.new).faults ≡ faults_after (W.seen out.old).faults result }
 {
     if text.len() >= PIECE {
         write_whole(out, text.as_slice())?;

@@ -11,7 +11,7 @@ returns-in-Ok-fault_line g c = record {
   status = c.tell.ensures.code ∙ sym (ap code_of c.in-Script.is);
   told = λ quiet.
       let text : c.as_bytes.result.now ≡ text_of c.args.end = c.as_bytes.ensures.value ∙ c.in-Ok-fault_line.ensures ∙ sym (ap text_of c.in-Script.is) in
-      subst (λ (bytes : List ℕ). Appends (g.E.Sink.held c.args.err.now) (g.E.Sink.held c.tell.new.err) bytes) text (c.tell.ensures.told quiet);
+      subst (λ (bytes : List ℕ). Appends (g.E.Sink.seen c.args.err.now).held (g.E.Sink.seen c.tell.new.err).held bytes) text (c.tell.ensures.told quiet);
 }
 
 pub returns-in-Err : goal.returns-in-Err
