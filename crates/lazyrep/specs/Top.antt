@@ -1,4 +1,4 @@
--- What the program's words, texts and exit statuses mean.
+-- To be believed: what the program's words, texts and exit statuses mean.
 use Rattle.std.specs.Prelude.{◌≡◌, ◌⊎◌, ◌++◌, ◌∷◌, [], ℕ, List, String, string_bytes, codes}
 use Rattle.std.specs.Fmt.{decimal}
 use Rattle.std.specs.declared.alloc.Global.{Global}
@@ -11,6 +11,7 @@ use Rattle.lr_script.specs.declared.refusals.Cause.TheVariants.{TooLong, Unended
 use Rattle.lr_script.specs.declared.refusals.Cause.TheVariants.{Fields, Number, Range, Op}
 
 -- there are two words, and the second is `sim`
+-- for example: `lazyrep sim`
 abbrev pub IsSim : List (String Global) → Type 0
 IsSim (program ∷ word ∷ []) = string_bytes word ≡ codes "sim"
 IsSim _ = ⊥
@@ -24,6 +25,7 @@ abbrev pub usage_text : List ℕ
 usage_text = text_line (codes "usage: lazyrep sim | run | gen NUMBER")
 
 -- what is wrong with a line, in words
+-- for example: `too long`
 abbrev pub cause_text : Cause → List ℕ
 cause_text TooLong = codes "too long"
 cause_text Unended = codes "unended"
@@ -36,6 +38,7 @@ cause_text Range = codes "range"
 cause_text Op = codes "op"
 
 -- the exit status of a simulation's end
+-- for example: 3, `lazyrep: line 2: op`
 abbrev pub code_of : SimEnd → ℕ
 code_of Done = 0
 code_of (Script number cause) = 3

@@ -1,4 +1,4 @@
--- What is seen of a source and of a sink, before and after.
+-- To be believed: what is seen of a source and of a sink, before and after.
 use Rattle.std.specs.Prelude.{◌≡◌, ℕ, List, Option}
 use Rattle.std.specs.Io.KnownBytes.{Appends}
 use Rattle.lr_outside.specs.Faults.{Rose, one_more}

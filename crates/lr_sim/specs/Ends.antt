@@ -1,4 +1,4 @@
--- How a simulation ends.
+-- To be believed: how a simulation ends.
 use Rattle.std.specs.Prelude.{◌≡◌, ◌≢◌, ◌<◌, ◌⊎◌, ◌↔◌, ℕ, List, length}
 use Rattle.lr_base.specs.Meaning.{Meaning}
 use Rattle.lr_base.specs.declared.events.Event.{Event}
@@ -35,6 +35,7 @@ abbrev pub IsNoScriptOf : {Value Op : Type 0} → Meaning Value Op → Header �
 IsNoScriptOf {Value} {Op} m header bytes = (events : List (Event Op)) → ¬ (IsScript m header events bytes)
 
 -- the bytes begin with this header's line, and this is the first bad line behind it, with the first cause at it
+-- for example: line 2, `op`, of `call 0 0 5 add ann` behind a header of mail
 pub record IsBadBehind (bytes : List ℕ) (line : ℕ) (cause : Cause) : Type 0 where
   pub header : Header
   pub has : HasHeader header bytes
@@ -42,6 +43,7 @@ pub record IsBadBehind (bytes : List ℕ) (line : ℕ) (cause : Cause) : Type 0 
 
 -- the bytes are no script of the service that a header names: this is the first bad line, with the first cause at it;
 -- too many bytes are refused for just that
+-- for example: line 1, `unended`, of `hello`
 pub record IsRefusedFor (bytes : List ℕ) (line : ℕ) (cause : Cause) : Type 0 where
   pub meaningless : (header : Header) → HoldsOf (λ Value Op m. IsNoScriptOf m header bytes) header.service
   pub fault : IsBadHead bytes line cause ⊎ IsBadBehind bytes line cause
@@ -65,6 +67,7 @@ IsDoneFor {Value} {Op} m header bytes end = (events : List (Event Op)) → IsScr
 
 -- it may not give up: where no call failed and there was memory, the input was read, and if it is a script of the
 -- service that its header names the simulation is done
+-- for example: not: a write fault, or a refusal of `first.script`
 abbrev pub IsComplete : {Out : Type 0} → SourceChange → SinkChange Out → SimEnd → Type 0
 IsComplete source sink end =
     ¬ (Rose source.before.faults source.after.faults) → ¬ (Rose sink.before.faults sink.after.faults) → end ≢ NoMemory

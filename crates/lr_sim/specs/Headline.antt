@@ -1,4 +1,4 @@
--- What is written of a script: the printed form of the legal history of its events.
+-- To be believed: what is written of a script: the printed form of the legal history of its events.
 use Rattle.std.specs.Prelude.{◌≡◌, ℕ, List, [], map, ◌++◌, take, Option}
 use Rattle.std.specs.Io.KnownBytes.{Appends}
 use Rattle.lr_base.specs.Meaning.{Meaning}
@@ -11,6 +11,7 @@ use Rattle.lr_script.specs.declared.heading.Header.{Header}
 
 -- there is a legal history of just these events; what was written is the front of its printed form, and this is the
 -- rest of it
+-- for example: all of it, and no rest
 pub record HasPrinted {Value Op : Type 0} (m : Meaning Value Op) (header : Header) (events : List (Event Op))
     (before now : Option (List ℕ)) (rest : List ℕ) : Type 0 where
   pub history : List (Step Op)
@@ -21,6 +22,7 @@ pub record HasPrinted {Value Op : Type 0} (m : Meaning Value Op) (header : Heade
   pub text : printed m header history ≡ written ++ rest
 
 -- the same of some first events
+-- for example: the header's line and half of the next
 pub record HasBegun {Value Op : Type 0} (m : Meaning Value Op) (header : Header) (events : List (Event Op))
     (before now : Option (List ℕ)) : Type 0 where
   pub count : ℕ
