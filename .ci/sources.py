@@ -5,7 +5,7 @@ import re
 
 TOP = os.path.dirname(os.path.dirname(os.path.abspath(__file__)))
 NAME = r"[^\s(){}\[\],;.]+"
-HEAD = re.compile(r"^(?P<shape>(?:abbrev )?(?:pub )?(?:record |data )?)(?P<name>" + NAME + r")(?= |$)")
+HEAD = re.compile(r"^(?P<shape>(?:abbrev |unfoldable )?(?:pub )?(?:record |data )?)(?P<name>" + NAME + r")(?= |$)")
 WORD = re.compile(r"(?:[^\W\d]|◌)[\w◌\-']*|[^\s\w(){}\[\],;.]+")
 EXAMPLE = "for example: "
 
