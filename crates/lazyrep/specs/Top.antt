@@ -38,7 +38,7 @@ cause_text Range = codes "range"
 cause_text Op = codes "op"
 
 -- the exit status of a simulation's end
--- for example: 3, `lazyrep: line 2: op`
+-- for example: 3 of a refusal
 abbrev pub code_of : SimEnd → ℕ
 code_of Done = 0
 code_of (Script number cause) = 3
@@ -47,6 +47,7 @@ code_of WriteFault = 5
 code_of NoMemory = 6
 
 -- what is told of a simulation's end: nothing where it is done
+-- for example: `lazyrep: line 2: op`
 abbrev pub text_of : SimEnd → List ℕ
 text_of Done = []
 text_of (Script number cause) =

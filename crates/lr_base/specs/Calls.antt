@@ -1,5 +1,4 @@
--- Tables of executed calls, in the order of their calls.
--- Tables of executed calls. In the examples `0.2` was executed at `1:1`.
+-- Tables of executed calls, in the order of their calls. In the examples `0.2` was executed at `1:1`.
 use Rattle.std.specs.Prelude.{Bool, List}
 use Rattle.lr_base.specs.Ascending.{cid_before, cid_up_to}
 use Rattle.lr_base.specs.Insertion.{Ascends, insert_all_by, insert_by, sorted_by}

@@ -98,13 +98,13 @@ either first f g = record {
 }
 
 -- whether a part may stand there
--- for example: `01 03`
+-- for example: true of no part
 abbrev pub is_optional : {A : Type 0} → Bool → Format A → Option A → Bool
 is_optional may f None = true
 is_optional may f (Some value) = may && f.is_value value
 
 -- a byte 0, or 1 and then the part
--- for example: `00`
+-- for example: `00`; `01 03`
 abbrev pub optional_bytes : {A : Type 0} → Format A → Option A → Bytes
 optional_bytes f None = big_bytes 1 0
 optional_bytes f (Some value) = big_bytes 1 1 ++ f.written value

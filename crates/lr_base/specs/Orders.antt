@@ -1,6 +1,6 @@
 -- Orders of updates: which updates they have, which of two stands before the other, and the value that they give.
--- Orders of updates, and the value that they give. The contract of `agreeing_orders_give_one_value` cites these. In the
--- examples `a` and `b` are additions to one counter under two keys.
+-- The contract of `agreeing_orders_give_one_value` cites these. In the examples `a` and `b` are additions to one
+-- counter under two keys.
 use Rattle.std.specs.Prelude.{◌≡◌, ◌≢◌, ◌⊎◌, true, List, [], ◌∷◌}
 use Rattle.lr_base.specs.Kinds.{IsUpdate, are_ordered}
 use Rattle.lr_base.specs.Meaning.{Meaning}

@@ -1,5 +1,4 @@
 -- Stamps, as lists of parts: one part for each place. A part past the end is 0.
--- A stamp is a list of numbers,
 use Rattle.std.specs.Prelude.{ℕ, zero, suc, max, Bool, true, ◌&&◌, ◌==◌, nat_le, List, [], ◌∷◌}
 
 -- a stamp, as the list of its parts

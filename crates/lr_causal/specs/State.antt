@@ -24,11 +24,12 @@ state_of c = record {
 }
 
 -- what the run is set up with
--- for example: replica 0
+-- for example: 1 replica, 1 client, a delta of 10
 abbrev pub config_of : {S Op : Type 0} {g : _} {h : _} → Causal S Op g h → Config
 config_of c = c.config
 
 -- which replica it is
+-- for example: replica 0
 abbrev pub me_of : {S Op : Type 0} {g : _} {h : _} → Causal S Op g h → ℕ
 me_of c = c.me
 

@@ -1,7 +1,4 @@
 -- The small parts of stable bytes are exact.
--- Facts with their proofs: each of these formats is exact (`state-exact`), two lists in one are told apart again
--- (`updates-merged`, `acks-merged`, `merged-split`), and a state in the ranges with the service's own operations is
--- written (`own-state`).
 use Rattle.std.proofs.Common.{◌≡◌, ◌<◌, ◌^◌, ℕ, Bool, true, false, cond, ◌++◌, length, take}
 use Rattle.std.proofs.Common.{drop, refl, sym, ◌∙◌, ap, arith, length-append, append_assoc, nat_lt}
 use Rattle.std.specs.Prelude.{Option, Some, None}

@@ -1,4 +1,4 @@
--- Stable bytes are exact.
+-- Stable bytes are exact: each of their formats is.
 use Rattle.std.proofs.Common.{◌≡◌, ◌+◌, ◌-◌, ◌^◌, ◌==◌, ◌&&◌, ◌||◌, cond, ℕ, Bool, true, false, List}
 use Rattle.std.proofs.Common.{refl, sym, ◌∙◌, ap}
 use Rattle.std.specs.Prelude.{nat_lt}

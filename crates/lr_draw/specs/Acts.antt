@@ -69,7 +69,7 @@ IsActBy word fields (Gossips from to) =
 IsActBy word fields Elsewhere = ⊥
 
 -- what stands behind the word is no number in its range
--- for example: not `deliver x`
+-- for example: `x` behind `deliver`
 abbrev pub IsNoActBy : Word → List ℕ → Type 0
 IsNoActBy Deliver fields = IsNoneBelow (2 ^ 64) fields
 IsNoActBy Call fields = IsNoneBelow 64 (first_field fields)
@@ -79,13 +79,14 @@ IsNoActBy Gossip fields = IsNoneBelow 15 (first_field fields) ⊎ IsNoneBelow 15
 IsNoActBy _ fields = IsNoneBelow 15 (first_field fields)
 
 -- the text begins with an event's word, and this is what it says
--- for example: `look 0 0 read x`
+-- for example: `deliver 3`
 pub record IsKnownAct (text : List ℕ) (act : Act) : Type 0 where
   pub word : Word
   pub first : first_field text ≡ word_text word
   pub says : IsActBy word (behind_field text) act
 
 -- what a text says; one that begins with another word than those known names nobody
+-- for example: `look 0 0 read x` names nobody
 abbrev pub IsAct : List ℕ → Act → Type 0
 IsAct text act = IsKnownAct text act ⊎ ((act ≡ Elsewhere) × ((word : Word) → first_field text ≢ word_text word))
 

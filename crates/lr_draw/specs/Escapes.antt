@@ -3,7 +3,7 @@ use Rattle.std.specs.Prelude.{◌≢◌, ◌==◌, ℕ, cond, List, [], ◌∷�
 use Rattle.std.specs.List.{flat_map}
 
 -- a byte, or its escape where it could end a text or begin another thing
--- for example: `&lt
+-- for example: `&lt;` of `<`
 abbrev pub escaped_byte : ℕ → List ℕ
 escaped_byte byte =
     cond (byte == 60) (codes "&lt;")
@@ -13,7 +13,7 @@ escaped_byte byte =
     (cond (byte == 39) (codes "&#39;") (byte ∷ [])))))
 
 -- each byte or its escape
--- for example: `
+-- for example: `a&lt;b` of `a<b`
 abbrev pub escaped : List ℕ → List ℕ
 escaped text = flat_map escaped_byte text
 

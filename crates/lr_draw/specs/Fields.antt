@@ -27,6 +27,6 @@ abbrev pub IsNumberBelow : ℕ → ℕ → List ℕ → Type 0
 IsNumberBelow limit number text = (text ≡ decimal number) × (number < limit)
 
 -- no number below the limit is written so
--- for example: not `012`
+-- for example: `012`
 abbrev pub IsNoneBelow : ℕ → List ℕ → Type 0
 IsNoneBelow limit text = (number : ℕ) → number < limit → text ≢ decimal number

@@ -15,11 +15,12 @@ use Rattle.lr_draw.specs.Lines.{IsNoLine, line_of}
 use Rattle.lr_draw.specs.Sends.{IsWay, IsNoWay}
 
 -- what stands before an event's text in its line
--- for example: `3: `, `  send 2 `
+-- for example: `3: `
 abbrev pub event_front : ℕ → List ℕ
 event_front number = decimal number ++ codes ": "
 
 -- what stands before a message's way in the line that tells that it was sent
+-- for example: `  send 2 `
 abbrev pub send_front : ℕ → List ℕ
 send_front number = codes "  send " ++ (decimal number ++ codes " ")
 

@@ -22,7 +22,7 @@ pub record IsWay (fields : List ℕ) (way : Way) : Type 0 where
   pub named : IsNamed (first_field (behind_field (behind_field fields))) way.kind
 
 -- no client and no replica is written so
--- for example: not `x1`
+-- for example: `x1`
 abbrev pub IsNobody : List ℕ → Type 0
 IsNobody field = (actor : Actor) → ¬ (IsActor field actor)
 

@@ -60,7 +60,7 @@ unfoldable pub title_text : List ℕ → List ℕ
 title_text text = codes "<title>" ++ (escaped text ++ codes "</title>")
 
 -- the name of a class
--- for example: `c0`, `3 done`
+-- for example: `lane`
 abbrev pub class_name : Class → List ℕ
 class_name Lane = codes "lane"
 class_name Broken = codes "broken"
@@ -71,11 +71,13 @@ class_name Ring = codes "ring"
 class_name (Of kind) = kind_name kind
 
 -- a lane's name
+-- for example: `c0`
 abbrev pub actor_name : Actor → List ℕ
 actor_name (Client number) = field_text (codes "c") number
 actor_name (Replica number) = field_text (codes "r") number
 
 -- a message's number and its kind
+-- for example: `3 done`
 abbrev pub message_name : ℕ → Kind → List ℕ
 message_name number kind = decimal number ++ (codes " " ++ kind_name kind)
 

@@ -37,7 +37,7 @@ abbrev pub usage_text : List ℕ
 usage_text = text_line (codes "usage: draw [FIRST LAST]")
 
 -- the exit status of a drawing's end
--- for example: 3, `draw: line 4`
+-- for example: 3 of a refusal
 abbrev pub code_of : DrawEnd → ℕ
 code_of Done = 0
 code_of (Line number) = 3
@@ -47,6 +47,7 @@ code_of WriteFault = 5
 code_of NoMemory = 6
 
 -- what is told of a drawing's end: nothing where it is done
+-- for example: `draw: line 4`
 abbrev pub text_of : DrawEnd → List ℕ
 text_of Done = []
 text_of (Line number) = codes "draw: line " ++ text_line (decimal number)

@@ -1,5 +1,4 @@
--- To be believed: how the facts of a history change: by each event, and by each line that is printed of it. How the
--- facts change by an event, and by each line that is printed of it.
+-- To be believed: how the facts of a history change: by each event, and by each line that is printed of it.
 use Rattle.std.specs.Prelude.{ℕ, suc, ◌^◌, ◌==◌, max, Bool, true, false, not, Option, Some, None}
 use Rattle.std.specs.Prelude.{List, [], ◌∷◌, ◌++◌, filter, find}
 use Rattle.lr_base.specs.Meaning.{Meaning}

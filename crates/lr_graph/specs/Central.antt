@@ -1,6 +1,6 @@
--- What stamps stand for in a run: the sets of acceptances that they name.
--- What stamps stand for in a run. The contract of `stamps_stand_for_sets` says that `IsCentral` holds after every
--- history that is made. In the examples `0:1` was accepted, and then `1:1` with the cause `0:1`.
+-- What stamps stand for in a run: the sets of acceptances that they name. The contract of `stamps_stand_for_sets`
+-- says that `IsCentral` holds after every history that is made. In the examples `0:1` was accepted, and then `1:1`
+-- with the cause `0:1`.
 use Rattle.std.specs.Prelude.{◌≡◌, ◌<◌, ℕ, find, length, ◌&&◌, ◌==◌, max, if◌then◌else◌, List, [], ◌∷◌, Some, is_some}
 use Rattle.std.specs.List.{slice_get}
 use Rattle.std.specs.Option.{option_map}

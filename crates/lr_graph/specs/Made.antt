@@ -1,5 +1,4 @@
--- Histories that the actors of a run make, each by its own rules.
--- Which histories the actors of a run make, each by its own rules: a statement about a given history, however it came
+-- Histories that the actors of a run make, each by its own rules: a statement about a given history, however it came
 -- about. The contracts of `what_is_made_is_legal`, `a_made_history_goes_on`, `runs_are_legal` and
 -- `stamps_stand_for_sets` cite these.
 use Rattle.std.specs.Prelude.{◌≡◌, List, [], ◌∷◌}

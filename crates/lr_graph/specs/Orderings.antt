@@ -1,7 +1,7 @@
--- Orders of acceptances in which each follows its causes. An order has the newest first, as the graph's own list has.
--- Orders of acceptances, with the newest first, as the graph's own list has. The contract of
--- `every_order_gives_one_value` cites these and `value_after`; its clause `own` says that there is always such an
--- order, what is ready in the order of making. In the examples `0:1` was accepted, and then `1:1` with the cause `0:1`.
+-- Orders of acceptances in which each follows its causes. An order has the newest first, as the graph's own list
+-- has. The contract of `every_order_gives_one_value` cites these and `value_after`; its clause `own` says that there
+-- is always such an order, what is ready in the order of making. In the examples `0:1` was accepted, and then `1:1`
+-- with the cause `0:1`.
 use Rattle.std.specs.Prelude.{◌≡◌, ℕ, true, false, List, [], ◌∷◌, filter}
 use Rattle.lr_base.specs.Meaning.{Meaning}
 use Rattle.lr_base.specs.Orders.{IsAmong}

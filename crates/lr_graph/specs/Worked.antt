@@ -21,11 +21,12 @@ abbrev pub small : Config
 small = record { replicas = 1; clients = 1; delta = 10 }
 
 -- the client's first call
--- for example: `0.1`, `0.2`
+-- for example: `0.1`
 abbrev pub first_call : Cid
 first_call = record { client = 0; seq = 1 }
 
 -- the client's second call
+-- for example: `0.2`
 abbrev pub second_call : Cid
 second_call = record { client = 0; seq = 2 }
 

@@ -1,6 +1,5 @@
 -- What a printed history has to keep to, so that its text tells it from others: its numbers fit, its operations are
 -- real, and no answer holds a line feed.
--- What a printed history has to keep to, so that its text tells it from others.
 use Rattle.std.specs.Prelude.{◌≢◌, ℕ, ◌<◌, ◌^◌, List}
 use Rattle.std.specs.List.{All}
 use Rattle.lr_base.specs.Meaning.{Meaning}
@@ -24,19 +23,22 @@ abbrev pub NumberFits : ℕ → Type 0
 NumberFits number = number < 2 ^ 64
 
 -- a call's two numbers fit
--- for example: `0.1`, `0:1`, `0/4`, `c0`
+-- for example: `0.1`
 abbrev pub CidFits : Cid → Type 0
 CidFits cid = NumberFits cid.client × NumberFits cid.seq
 
 -- a spot's two numbers fit
+-- for example: `0:1`
 abbrev pub SpotFits : Spot → Type 0
 SpotFits spot = NumberFits spot.place × NumberFits spot.number
 
 -- a mark's two numbers fit
+-- for example: `0/4`
 abbrev pub MarkFits : ℕ × ℕ → Type 0
 MarkFits mark = NumberFits mark.0 × NumberFits mark.1
 
 -- a client's or a replica's number fits
+-- for example: `c0`
 abbrev pub ActorFits : Actor → Type 0
 ActorFits (Client number) = NumberFits number
 ActorFits (Replica number) = NumberFits number

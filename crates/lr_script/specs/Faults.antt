@@ -79,7 +79,7 @@ pub record HasNoOp {Value Op : Type 0} (m : Meaning Value Op) (config : Config) 
   pub bad : IsNoCalled m op
 
 -- what stands behind a call's word is no call
--- for example: `deliver 1 2`: `fields`
+-- for example: `0 0 5`: `fields`
 abbrev pub IsBadCall : {Value Op : Type 0} → Meaning Value Op → Config → List ℕ → Cause → Type 0
 IsBadCall m config fields Fields = spaces fields < 3
 IsBadCall m config fields Number = HasNoNumber fields
@@ -88,6 +88,7 @@ IsBadCall m config fields Op = HasNoOp m config fields
 IsBadCall m config fields _ = ⊥
 
 -- what stands behind a delivery's word is no one number
+-- for example: `1 2`: `fields`
 abbrev pub IsBadDeliver : List ℕ → Cause → Type 0
 IsBadDeliver fields Fields = 0 < spaces fields
 IsBadDeliver fields Number = (spaces fields ≡ 0) × IsNoNumber fields

@@ -10,7 +10,7 @@ use Rattle.lr_script.specs.declared.heading.Name.{Name}
 use Rattle.lr_script.specs.declared.heading.Name.TheVariants.{Tally, Mail, Claims}
 
 -- a service's name
--- for example: `lazyrep 1 tally 1 1 10`
+-- for example: `tally`
 abbrev pub service_text : Name → List ℕ
 service_text Tally = codes "tally"
 service_text Mail = codes "mail"
@@ -24,11 +24,13 @@ service_number Mail = 2
 service_number Claims = 3
 
 -- the counts of replicas and clients, and how long a message may be under way
+-- for example: `1 1 10`
 abbrev pub config_text : Config → List ℕ
 config_text config =
     decimal config.replicas ++ (codes " " ++ (decimal config.clients ++ (codes " " ++ decimal config.delta)))
 
 -- a script's first line: its service and what a run is set up with
+-- for example: `lazyrep 1 tally 1 1 10`
 abbrev pub header_text : Header → List ℕ
 header_text header = codes "lazyrep 1 " ++ (service_text header.service ++ (codes " " ++ config_text header.config))
 

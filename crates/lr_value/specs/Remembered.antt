@@ -13,11 +13,12 @@ use Rattle.lr_value.specs.Applied.{Applied, Memory}
 use Rattle.lr_value.specs.Waiting.{NoneReady}
 
 -- whether two spots are one
--- for example: `1:4` among `0:1`, `1:4`
+-- for example: true of `1:4`, `1:4`
 abbrev pub is_at : Spot → Spot → Bool
 is_at s spot = (s.place == spot.place) && (s.number == spot.number)
 
 -- whether a spot is among these
+-- for example: `1:4` among `0:1`, `1:4`
 abbrev pub is_among : List Spot → Spot → Bool
 is_among [] spot = false
 is_among (s ∷ spots) spot = is_at s spot || is_among spots spot

@@ -29,12 +29,13 @@ abbrev pub insert_word : Bytes → List Bytes → List Bytes
 insert_word word words = insert_by is_up_to word words
 
 -- a word is up to the first of these, if there is one
--- for example: `a`, `b`, `b`
+-- for example: `a`, before `b`, `b`
 abbrev pub is_up_to_first : Bytes → List Bytes → Bool
 is_up_to_first word [] = true
 is_up_to_first word (first ∷ rest) = is_up_to word first
 
 -- each word is up to the next
+-- for example: `a`, `b`, `b`
 abbrev pub are_in_order : List Bytes → Bool
 are_in_order [] = true
 are_in_order (word ∷ words) = is_up_to_first word words && are_in_order words

@@ -52,11 +52,12 @@ table_field format bytes = and_then (count_field bytes) (λ count rest.
     and_then (times (entry_field format) count None rest) (λ entries end. Found (map.from_sorted entries) end))
 
 -- the bytes of an entry
--- for example: `00000001 01 78 0000000000000003` where x is 3
+-- for example: `01 78 0000000000000003` where x is 3
 abbrev pub entry_bytes : {V : Type 0} → Format V → Bytes × V → Bytes
 entry_bytes format entry = word_bytes entry.0 ++ format.written entry.1
 
 -- the bytes of a table
+-- for example: `00000001 01 78 0000000000000003` where x is 3
 abbrev pub table_bytes : {V : Type 0} → Format V → Table V → Bytes
 table_bytes format table = count_bytes (map.len table) ++ flat_map (entry_bytes format) (map.entries table)
 

@@ -1,4 +1,3 @@
--- What a part of a step has done.
 -- What a part of a step has done, and what a task of a replica comes to. A task is to take a message, or to tell
 -- another replica.
 use Rattle.std.specs.Prelude.{◌≡◌, ◌<◌, ◌++◌, ℕ, true, [], ◌∷◌}

@@ -1,6 +1,6 @@
--- What every message and every act of a run keeps.
--- What every message and act of a run keeps, so that each delivery meets what its receiver asks for. No contract of a
--- replica's or a front end's step cites them for what it sends: that it fits is a fact about the rules.
+-- What every message and every act of a run keeps, so that each delivery meets what its receiver asks for. No
+-- contract of a replica's or a front end's step cites them for what it sends: that it fits is a fact about the
+-- rules.
 use Rattle.std.specs.Prelude.{◌≡◌, ◌+◌, ℕ, Bool, true, not, List, [], ◌∷◌, nat_lt}
 use Rattle.lr_base.specs.Kinds.{is_query}
 use Rattle.lr_base.specs.declared.lr_service.Kind.{Kind}

@@ -12,11 +12,12 @@ pub record History (Op : Type 0) : Type 0 where
   pub steps : List (Step Op)
 
 -- what the run is set up with
--- for example: `first_run` of a new run
+-- for example: 1 replica, 1 client, a delta of 10
 abbrev pub setup_of : {S Op : Type 0} {g : _} {h : _} → Run S Op g h → Config
 setup_of r = r.config
 
 -- the run, as the rules see it
+-- for example: `first_run` of a new run
 abbrev pub run_of : {S Op : Type 0} {g : _} {h : _} → Run S Op g h → RunState S Op
 run_of r = record { replicas = r.replicas.items; fronts = r.fronts.items; posted = r.posted.items }
 
