@@ -1,5 +1,6 @@
 //! A vector that contracts see as the list of its elements.
-ghost use Rattle.std.specs.Prelude.{◌≡◌, [], ◌∷◌, ◌++◌, ◌↔◌, length, IsTrue, IfOk, OnOk, OnErr, slice_get};
+ghost use Rattle.std.specs.Prelude.{◌≡◌, ◌≤◌, ◌+◌, [], ◌∷◌, ◌++◌, ◌↔◌, length, take, drop, IsTrue, IfOk, OnOk, OnErr};
+ghost use Rattle.std.specs.Prelude.{slice_get};
 
 use std::alloc::{AllocError, AllocFailed, Global};
 use std::marker::Model;
@@ -94,6 +95,13 @@ impl<T: Drop> Rows<T> {
         Ok(())
     }
 
+    /// Drops the rows behind the first so many, and keeps their room.
+    pub fn truncate(&mut self, count: usize)
+        ensures { self.new ≡ take count self.old }
+    {
+        self.items.truncate(count);
+    }
+
     /// Drops all rows, and keeps their room.
     pub fn clear(&mut self)
         ensures { self.new ≡ [] }
@@ -118,6 +126,14 @@ impl<T: Copy> Rows<T> {
     {
         self.items.extend_from_slice(items)?;
         Ok(())
+    }
+
+    /// Puts the slice's elements in the place of as many, from an index on.
+    pub fn overwrite(&mut self, at: usize, items: &[T])
+        requires { at + length items.now ≤ length self.old }
+        ensures { self.new ≡ take at self.old ++ (items.now ++ drop (at + length items.now) self.old) }
+    {
+        self.items.as_mut_slice()[at..at + items.len()].copy_from_slice(items);
     }
 
     /// The row at an index, from 0.
