@@ -4,13 +4,13 @@ use Rattle.std.specs.Prelude.{Option, Some, None}
 use Rattle.std.specs.Fmt.{decimal}
 use Rattle.std.specs.List.{list_any}
 use Rattle.std.specs.Str.{bytes_eq}
-use Rattle.std.proofs.lemmas.Bool.{and_parts, and_from, eqb-false, eqb-true, leb-false, ltb-true, ne_eqb}
+use Rattle.std.proofs.lemmas.Bool.{and_parts, and_from, eqb-false, eqb-true, leb-false, ne_eqb}
 use Rattle.lr_base.specs.ByteLaws.{bytes-same, same-bytes}
 use Rattle.lr_base.specs.Meaning.{is_printable}
 use Rattle.lr_base.specs.NumberLaws.{number_of_text-back, number_of_text-none}
 use Rattle.lr_base.specs.Numbers.{number_of_text}
 use Rattle.lr_script.specs.Fields.{IsNoNumber, spaces, word_text}
-use Rattle.lr_script.specs.Faults.{HasBadByte, IsNoLine}
+use Rattle.lr_script.specs.Faults.{IsNoLine}
 use Rattle.lr_script.specs.Texts.{service_text}
 use Rattle.lr_script.specs.declared.fields.EventWord.{EventWord}
 use Rattle.lr_script.specs.declared.fields.EventWord.TheVariants.{Call, Deliver, Gossip, Show}

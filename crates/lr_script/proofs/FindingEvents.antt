@@ -1,25 +1,21 @@
 -- An event is found in a line, or why the line is none's.
-use Rattle.std.proofs.Common.{◌≡◌, ◌≢◌, ◌⊎◌, inl, inr, ◌<◌, ◌≤◌, ◌+◌, ◌^◌, ◌&&◌, ℕ, Bool, true, false, eqb, List, ◌∷◌, ◌++◌, refl, sym, ◌∙◌, ap, arith}
-use Rattle.std.specs.Prelude.{Option, Some, None, codes}
+use Rattle.std.proofs.Common.{◌≡◌, ◌≢◌, ◌⊎◌, inl, inr, ◌<◌, ◌≤◌, ℕ, Bool, true, false, eqb, List, ◌∷◌, ◌++◌, refl, ◌∙◌, ap, arith}
+use Rattle.std.specs.Prelude.{codes}
 use Rattle.std.specs.Fmt.{decimal}
-use Rattle.std.proofs.lemmas.Bool.{and_from, and_parts, eqb-false, eqb-true}
-use Rattle.lr_base.specs.Kinds.{has_rules}
-use Rattle.lr_base.specs.Meaning.{Encoding, Lawful, Meaning}
-use Rattle.lr_base.specs.OpLaws.{found-op, no-text}
+use Rattle.std.proofs.lemmas.Bool.{eqb-false, eqb-true}
+use Rattle.lr_base.specs.Meaning.{Meaning}
 use Rattle.lr_base.specs.declared.events.Event.{Event}
-use Rattle.lr_base.specs.declared.events.Event.TheVariants.{Call, Deliver, Gossip, Show}
-use Rattle.lr_base.specs.declared.lr_service.Kind.{Kind}
+use Rattle.lr_base.specs.declared.events.Event.TheVariants.{Deliver, Gossip, Show}
 use Rattle.lr_base.specs.declared.names.Config.{Config}
-use Rattle.lr_script.specs.Fields.{IsCallFields, IsNoNumber, IsPair, four_fields, spaces, word_text}
-use Rattle.lr_script.specs.Faults.{IsBadEvent, IsBadFields, bad_rest, no_word, word_alone}
-use Rattle.lr_script.specs.Script.{Fits, IsNoCalled, is_called}
+use Rattle.lr_script.specs.Fields.{IsNoNumber, IsPair, spaces, word_text}
+use Rattle.lr_script.specs.Faults.{IsBadFields}
+use Rattle.lr_script.specs.Script.{Fits}
 use Rattle.lr_script.specs.Texts.{event_text}
 use Rattle.lr_script.specs.declared.fields.EventWord.{EventWord}
-use Rattle.lr_script.specs.declared.fields.EventWord.TheVariants.{Call as WCall, Deliver as WDeliver, Gossip as WGossip, Show as WShow}
+use Rattle.lr_script.specs.declared.fields.EventWord.TheVariants.{Deliver as WDeliver, Gossip as WGossip, Show as WShow}
 use Rattle.lr_script.specs.declared.refusals.Cause.{Cause}
-use Rattle.lr_script.specs.declared.refusals.Cause.TheVariants.{Event as NoWord, Fields, Number, Range, Op as NoOp}
-use Rattle.lr_script.proofs.Cuts.{field_one, word_spaceless}
-use Rattle.lr_script.proofs.Finding.{IsCut, IsNumber, cut_or_whole, less_or_not, number_or_none, word_or_none}
+use Rattle.lr_script.specs.declared.refusals.Cause.TheVariants.{Fields, Number, Range}
+use Rattle.lr_script.proofs.Finding.{IsCut, IsNumber, cut_or_whole, less_or_not, number_or_none}
 use Rattle.lr_script.proofs.Splits.{spaces_behind}
 
 -- two numbers are one, or they aren't

@@ -2,13 +2,14 @@
 use Rattle.std.proofs.Common.{◌≡◌, ◌≢◌, ◌⊎◌, inl, inr, ◌<◌, ◌≤◌, ◌+◌, ℕ, zero, suc, List, [], ◌∷◌, ◌++◌, length, length-append, append_assoc, refl, sym, ◌∙◌, ap, arith}
 use Rattle.std.specs.List.{All}
 use Rattle.std.proofs.lemmas.List.Elements.{All-cons}
-use Rattle.lr_base.specs.Meaning.{Encoding, Lawful, Meaning, is_printable}
+use Rattle.lr_base.specs.Limits.{most_script_bytes}
+use Rattle.lr_base.specs.Meaning.{Encoding, Lawful, Meaning}
 use Rattle.lr_base.specs.declared.events.Event.{Event}
 use Rattle.lr_base.specs.declared.lr_service.Kind.{Kind}
 use Rattle.lr_base.specs.declared.names.Config.{Config}
 use Rattle.lr_script.specs.Fields.{spaces, word_text}
 use Rattle.lr_script.specs.Faults.{HasMeaning, IsBadAmong, IsBadEvent, IsBadLine, IsNoLine, bad_head, bad_rest, empty, no_event, no_header, no_line, no_word, too_long, word_alone}
-use Rattle.lr_script.specs.Script.{Fits, IsSetUp, events_text, line_of}
+use Rattle.lr_script.specs.Script.{Fits, events_text, line_of}
 use Rattle.lr_script.specs.Texts.{event_text, header_text}
 use Rattle.lr_script.specs.declared.fields.EventWord.{EventWord}
 use Rattle.lr_script.specs.declared.fields.EventWord.TheVariants.{Call, Deliver, Gossip, Show}
@@ -166,9 +167,9 @@ module _ {Value Op : Type 0} (m : Meaning Value Op) {e : Encoding Value} {kind_o
     (lawful : Lawful m e kind_of) where
   -- all bytes are a script, or have a first bad line
   pub each_meaning : (bytes : List ℕ) → HasMeaning m bytes
-  each_meaning bytes = long (less_or_not 8388608 (length bytes))
+  each_meaning bytes = long (less_or_not most_script_bytes (length bytes))
     where
-      headed : length bytes ≤ 8388608 → (line : IsLine bytes) → IsHeaderLine line.0 ⊎ IsNoHeaderLine line.0
+      headed : length bytes ≤ most_script_bytes → (line : IsLine bytes) → IsHeaderLine line.0 ⊎ IsNoHeaderLine line.0
           → HasMeaning m bytes
       headed short line (inr none) = inr (
         1,
@@ -204,7 +205,7 @@ module _ {Value Op : Type 0} (m : Meaning Value Op) {e : Encoding Value} {kind_o
             )
           ]
 
-      first : length bytes ≤ 8388608 → (0 < length bytes) ⊎ (length bytes ≤ 0)
+      first : length bytes ≤ most_script_bytes → (0 < length bytes) ⊎ (length bytes ≤ 0)
           → IsLine bytes ⊎ ((cause : Cause) × IsNoLine bytes cause) → HasMeaning m bytes
       first short (inr none) line = inr (
         1,
@@ -220,6 +221,6 @@ module _ {Value Op : Type 0} (m : Meaning Value Op) {e : Encoding Value} {kind_o
             (inl (bad_head none.0 short some none.1)),
       )
 
-      long : (8388608 < length bytes) ⊎ (length bytes ≤ 8388608) → HasMeaning m bytes
+      long : (most_script_bytes < length bytes) ⊎ (length bytes ≤ most_script_bytes) → HasMeaning m bytes
       long (inl much) = inr (0, TooLong, refusal m lawful.printable_text bytes 0 TooLong (inl (too_long much)))
       long (inr short) = first short (less_or_not 0 (length bytes)) (line_or_none bytes)

@@ -15,3 +15,4 @@ pub mod FindingHeaders
 pub mod FindingEvents
 pub mod FindingCalls
 pub mod FindingLines
+pub mod BadBytes

@@ -34,7 +34,7 @@ pub printable_cut : (f g r s : List ℕ) → f ++ 10 ∷ r ≡ g ++ 10 ∷ s →
 printable_cut f g r s e hf hg = cut_one (λ byte. leb 32 byte && leb byte 126) 10 refl f g r s e hf hg
 
 -- tests of which one passes or fails
-or_true : (a b : Bool) → b ≡ true → (a || b) ≡ true
+pub or_true : (a b : Bool) → b ≡ true → (a || b) ≡ true
 or_true true b h = refl
 or_true false b h = h
 
@@ -43,7 +43,7 @@ and_true true h = h
 and_true false h = refl
 
 -- what stands behind other bytes is among them all
-fed_behind : (front back : List ℕ) → list_any (λ byte. eqb byte 10) back ≡ true → list_any (λ byte. eqb byte 10) (front ++ back) ≡ true
+pub fed_behind : (front back : List ℕ) → list_any (λ byte. eqb byte 10) back ≡ true → list_any (λ byte. eqb byte 10) (front ++ back) ≡ true
 fed_behind front back h = list_any-append (λ byte. eqb byte 10) front back ∙ or_true (list_any (λ byte. eqb byte 10) front) (list_any (λ byte. eqb byte 10) back) h
 
 -- bytes with a line feed are not unended

@@ -2,6 +2,7 @@
 use Rattle.std.proofs.Common.{◌≡◌, ◌≢◌, ℕ, suc, ◌+◌, ◌≤◌, ◌↔◌, ◌⊎◌, inl, inr, List, [], ◌∷◌, ◌++◌, length, append_assoc, Result, Ok, Err, refl, sym, ◌∙◌, ap, subst, arith}
 use Rattle.std.specs.Prelude.{IfOk, IfErr}
 use Rattle.std.specs.List.{All}
+use Rattle.lr_base.specs.Limits.{most_script_bytes}
 use Rattle.lr_base.specs.Meaning.{Meaning}
 use Rattle.lr_base.specs.declared.events.Event.{Event}
 use Rattle.lr_base.specs.declared.names.Config.{Config}
@@ -49,7 +50,7 @@ module _ {Value Op : Type 0} (m : Meaning Value Op) (ops : ArePrintable m) where
       let more = lines_one texts events others (all_others (EventFits m) x events fit) (all_others (EventFits m) o others fits) cut.1 in
       λ i. cut.0 i ∷ more i
 
-  all_fit : (config : Config) (events : List (Event Op)) → All (Fits m config) events → All (EventFits m) events
+  pub all_fit : (config : Config) (events : List (Event Op)) → All (Fits m config) events → All (EventFits m) events
   all_fit config events fit = λ k d below. (fit k d below).1
 
   -- bytes are at most one script
@@ -97,12 +98,12 @@ head_fault_is bytes NoMemory h memory line cause bad = absurd (memory refl)
 -- what was read of a header, without memory
 pub record HasReadHeader (bytes : List ℕ) (result : Result Header ScriptFault) : Type 0 where
   pub ok : IfOk result (λ header. HasHeader header bytes)
-  pub short : IfOk result (λ header. length bytes ≤ 8388608)
+  pub short : IfOk result (λ header. length bytes ≤ most_script_bytes)
   pub err : IfErr result (IsHeadFault bytes)
   pub memory : result ≢ Err NoMemory
 
 -- a header that was read is the only one that can be
-pub header_exactly : (bytes : List ℕ) (result : Result Header ScriptFault) → HasReadHeader bytes result → (header : Header) → (result ≡ Ok header) ↔ (HasHeader header bytes × (length bytes ≤ 8388608))
+pub header_exactly : (bytes : List ℕ) (result : Result Header ScriptFault) → HasReadHeader bytes result → (header : Header) → (result ≡ Ok header) ↔ (HasHeader header bytes × (length bytes ≤ most_script_bytes))
 header_exactly bytes (Ok header) has other = (
   (λ e. let same : header ≡ other = cc in (subst (λ (it : Header). HasHeader it bytes) same has.ok, has.short)),
   (λ is. ap Ok (head_one bytes header other has.ok.rest is.0.rest has.ok.valid is.0.valid has.ok.text is.0.text).0),

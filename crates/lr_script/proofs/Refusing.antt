@@ -1,6 +1,7 @@
 -- Which bytes are too long, and what a refusal says of them.
 use Rattle.std.proofs.Common.{◌≡◌, ◌<◌, ◌≤◌, ◌↔◌, ◌⊎◌, inl, inr, ℕ, List, ◌++◌, length, Result, Ok, Err, refl, ap, subst, arith}
 use Rattle.std.specs.Prelude.{IfErr}
+use Rattle.lr_base.specs.Limits.{most_script_bytes}
 use Rattle.lr_base.specs.Meaning.{Meaning}
 use Rattle.lr_base.specs.declared.names.Config.{Config}
 use Rattle.lr_script.specs.Faults.{IsBadAt, IsBadEvent, IsBadFields, IsBadHead, IsBadLine, IsHeadFault, IsLineFault, IsNoLine, IsRefusal, IsRefused, IsScriptFault, bad_head, bad_rest, empty, no_event, no_header, no_line, too_long}
@@ -33,7 +34,7 @@ module _ {Value Op : Type 0} (m : Meaning Value Op) where
   line_fits config bytes cause is (no_line why bad) = subst (λ (c : Cause). IsNoLine bytes c) is bad
   line_fits config bytes cause is (no_event line later why e printable bad) = event_fits config line why is bad
 
-  head_long : (bytes : List ℕ) (line : ℕ) (cause : Cause) → IsBadHead bytes line cause → (cause ≡ TooLong) ↔ (8388608 < length bytes)
+  head_long : (bytes : List ℕ) (line : ℕ) (cause : Cause) → IsBadHead bytes line cause → (cause ≡ TooLong) ↔ (most_script_bytes < length bytes)
   head_long bytes line cause (too_long h) = ((λ e. h), (λ l. refl))
   head_long bytes line cause (empty e) = ((λ same. absurd (header_other same)), (λ l. let none : length bytes ≡ 0 = ap length e in absurd (omega arith)))
     where
@@ -45,14 +46,14 @@ module _ {Value Op : Type 0} (m : Meaning Value Op) where
       header_other : ◌≡◌ {A = Cause} NoHeader TooLong → ⊥
       header_other e = cc
 
-  at_short : (bytes : List ℕ) (line : ℕ) (cause : Cause) → IsBadAt m bytes line cause → (cause ≡ TooLong) ↔ (8388608 < length bytes)
+  at_short : (bytes : List ℕ) (line : ℕ) (cause : Cause) → IsBadAt m bytes line cause → (cause ≡ TooLong) ↔ (most_script_bytes < length bytes)
   at_short bytes line cause at = ((λ is. absurd (line_fits at.header.config at.bad.rest cause is at.bad.bad)), (λ l. let short = at.short in absurd (omega arith)))
 
   -- a fault at a line is a refusal
   pub refusal : ArePrintable m → (bytes : List ℕ) (line : ℕ) (cause : Cause) → IsScriptFault m bytes (Line line cause) → IsRefusal m bytes line cause
   refusal ops bytes line cause fault = record { meaningless = refuted m ops bytes line cause fault; fault = fault; long = long fault }
     where
-      long : IsBadHead bytes line cause ⊎ IsBadAt m bytes line cause → (cause ≡ TooLong) ↔ (8388608 < length bytes)
+      long : IsBadHead bytes line cause ⊎ IsBadAt m bytes line cause → (cause ≡ TooLong) ↔ (most_script_bytes < length bytes)
       long (inl bad) = head_long bytes line cause bad
       long (inr bad) = at_short bytes line cause bad
 
@@ -65,6 +66,6 @@ module _ {Value Op : Type 0} (m : Meaning Value Op) where
   head_refused ops bytes fault h = refused ops bytes fault (head_fault m bytes fault h)
 
   -- and so does a line behind a header
-  pub lines_refused : ArePrintable m → (bytes lines : List ℕ) (header : Header) → IsSetUp header.config → length bytes ≤ 8388608 → bytes ≡ line_of (header_text header) ++ lines → {T : Type 0} (result : Result T ScriptFault) → IfErr result (IsLineFault m header.config lines) → IfErr result (IsRefused m bytes)
+  pub lines_refused : ArePrintable m → (bytes lines : List ℕ) (header : Header) → IsSetUp header.config → length bytes ≤ most_script_bytes → bytes ≡ line_of (header_text header) ++ lines → {T : Type 0} (result : Result T ScriptFault) → IfErr result (IsLineFault m header.config lines) → IfErr result (IsRefused m bytes)
   lines_refused ops bytes lines header set short e (Ok value) h = h
   lines_refused ops bytes lines header set short e (Err fault) h = refused ops bytes fault (lines_fault m bytes lines header set short e fault h)

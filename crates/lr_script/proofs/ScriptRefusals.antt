@@ -4,6 +4,7 @@ use Rattle.std.specs.Prelude.{IfOk}
 use Rattle.std.specs.List.{All}
 use Rattle.std.specs.Fmt.{decimal}
 use Rattle.std.proofs.lemmas.Fmt.{decimal_injective}
+use Rattle.lr_base.specs.Limits.{most_script_bytes}
 use Rattle.lr_base.specs.Meaning.{Meaning}
 use Rattle.lr_base.specs.declared.events.Event.{Event}
 use Rattle.lr_base.specs.declared.names.Config.{Config}
@@ -93,7 +94,7 @@ head_one bytes a b more rest set other ea eb =
     (header_one a b set other cut.0, cut.1)
 
 -- few enough bytes that begin with a header's line are not refused for want of one
-pub head_refuted : (bytes : List ℕ) (header : Header) → HasHeader header bytes → length bytes ≤ 8388608 → (line : ℕ) (cause : Cause) → IsBadHead bytes line cause → ⊥
+pub head_refuted : (bytes : List ℕ) (header : Header) → HasHeader header bytes → length bytes ≤ most_script_bytes → (line : ℕ) (cause : Cause) → IsBadHead bytes line cause → ⊥
 head_refuted bytes header has short line cause (too_long h) = omega arith
 head_refuted bytes header has short line cause (empty e) = never_empty (header_text header) has.rest (sym e ∙ has.text ∙ append_assoc (header_text header) (10 ∷ []) has.rest)
 head_refuted bytes header has short line cause (bad_head why few some bad) =
@@ -130,13 +131,13 @@ script_header m header other events bytes is has =
     subst P one.0 is
 
 -- what was read behind a header is a script with any header that the bytes begin with
-pub script_read : {Value Op : Type 0} (m : Meaning Value Op) (bytes lines : List ℕ) (header other : Header) (result : Result (List (Event Op)) ScriptFault) → IsSetUp header.config → length bytes ≤ 8388608 → bytes ≡ line_of (header_text header) ++ lines → IfOk result (All (Fits m header.config)) → IfOk result (λ events. lines ≡ events_text m events) → HasHeader other bytes → IfOk result (λ events. IsScript m other events bytes)
+pub script_read : {Value Op : Type 0} (m : Meaning Value Op) (bytes lines : List ℕ) (header other : Header) (result : Result (List (Event Op)) ScriptFault) → IsSetUp header.config → length bytes ≤ most_script_bytes → bytes ≡ line_of (header_text header) ++ lines → IfOk result (All (Fits m header.config)) → IfOk result (λ events. lines ≡ events_text m events) → HasHeader other bytes → IfOk result (λ events. IsScript m other events bytes)
 script_read m bytes lines header other (Ok events) set short e fit text has =
     script_header m header other events bytes (record { valid = set; fit = fit; short = short; text = e ∙ ap (λ more. line_of (header_text header) ++ more) text }) has
 script_read m bytes lines header other (Err fault) set short e fit text has = tt
 
 -- and so they are the events of the bytes
-pub events_read : {Value Op : Type 0} (m : Meaning Value Op) (bytes lines : List ℕ) (header : Header) (result : Result (List (Event Op)) ScriptFault) → IsSetUp header.config → length bytes ≤ 8388608 → bytes ≡ line_of (header_text header) ++ lines → IfOk result (All (Fits m header.config)) → IfOk result (λ events. lines ≡ events_text m events) → IfOk result (AreEventsOf m bytes)
+pub events_read : {Value Op : Type 0} (m : Meaning Value Op) (bytes lines : List ℕ) (header : Header) (result : Result (List (Event Op)) ScriptFault) → IsSetUp header.config → length bytes ≤ most_script_bytes → bytes ≡ line_of (header_text header) ++ lines → IfOk result (All (Fits m header.config)) → IfOk result (λ events. lines ≡ events_text m events) → IfOk result (AreEventsOf m bytes)
 events_read m bytes lines header (Ok events) set short e fit text = record {
   header = header;
   script = script_read m bytes lines header header (Ok events) set short e fit text (record { valid = set; rest = lines; text = e });
@@ -148,6 +149,6 @@ pub head_fault : {Value Op : Type 0} (m : Meaning Value Op) (bytes : List ℕ) (
 head_fault m bytes (Line line cause) h = inl h
 head_fault m bytes NoMemory h = h
 
-pub lines_fault : {Value Op : Type 0} (m : Meaning Value Op) (bytes lines : List ℕ) (header : Header) → IsSetUp header.config → length bytes ≤ 8388608 → bytes ≡ line_of (header_text header) ++ lines → (fault : ScriptFault) → IsLineFault m header.config lines fault → IsScriptFault m bytes fault
+pub lines_fault : {Value Op : Type 0} (m : Meaning Value Op) (bytes lines : List ℕ) (header : Header) → IsSetUp header.config → length bytes ≤ most_script_bytes → bytes ≡ line_of (header_text header) ++ lines → (fault : ScriptFault) → IsLineFault m header.config lines fault → IsScriptFault m bytes fault
 lines_fault m bytes lines header set short e (Line line cause) h = inr (record { header = header; lines = lines; text = e; valid = set; short = short; bad = h })
 lines_fault m bytes lines header set short e NoMemory h = h

@@ -1,7 +1,9 @@
 -- To be believed: the first cause at a bad line.
-use Rattle.std.specs.Prelude.{◌≡◌, ◌≢◌, ℕ, ◌+◌, ◌<◌, ◌≤◌, ◌^◌, ◌==◌, ◌⊎◌, ◌↔◌, true, false, List, [], ◌∷◌, ◌++◌, length}
+use Rattle.std.specs.Prelude.{◌≡◌, ◌≢◌, ℕ, ◌+◌, ◌<◌, ◌≤◌, ◌^◌, ◌==◌, ◌⊎◌, ◌↔◌, ◌||◌, nat_lt, true, false, List, [], ◌∷◌}
+use Rattle.std.specs.Prelude.{◌++◌, length}
 use Rattle.std.specs.Fmt.{decimal}
 use Rattle.std.specs.List.{All, list_any}
+use Rattle.lr_base.specs.Limits.{most_script_bytes}
 use Rattle.lr_base.specs.Meaning.{Meaning, is_printable}
 use Rattle.lr_base.specs.declared.names.Config.{Config}
 use Rattle.lr_script.specs.declared.refusals.Cause.{Cause}
@@ -34,6 +36,20 @@ pub record HasBadByte (bytes : List ℕ) : Type 0 where
   pub bad : is_printable (byte ∷ []) ≡ false
   pub other : byte ≢ 10
   pub ended : IsEnded later
+
+-- one of the bytes isn't printable: it is below the space or above the tilde
+-- for example: `a`, a tabulator, `b`
+abbrev pub HasUnprintable : List ℕ → Type 0
+HasUnprintable bytes = list_any (λ byte. nat_lt byte 32 || nat_lt 126 byte) bytes ≡ true
+
+-- the bytes begin with a line, which a line feed ends, and one of the bytes before that isn't printable
+-- for example: a tabulator, `x`, a line feed, `show 0`
+pub record BeginsUnprintable (bytes : List ℕ) : Type 0 where
+  pub line : List ℕ
+  pub rest : List ℕ
+  pub text : bytes ≡ line_of line ++ rest
+  pub first : ¬ (IsEnded line)
+  pub bad : HasUnprintable line
 
 -- the bytes begin with no line of printable bytes
 -- for example: `show 0` at the end of input
@@ -152,12 +168,13 @@ pub data IsBadLine {Value Op : Type 0} (m : Meaning Value Op) (config : Config) 
 -- the bytes don't begin with a header's line
 -- for example: no bytes: line 1, `header`
 pub data IsBadHead (bytes : List ℕ) : ℕ → Cause → Type 0 where
-  too_long : 8388608 < length bytes → IsBadHead bytes 0 TooLong
+  too_long : most_script_bytes < length bytes → IsBadHead bytes 0 TooLong
   empty : bytes ≡ [] → IsBadHead bytes 1 Header
-  bad_head : (cause : Cause) → length bytes ≤ 8388608 → 1 ≤ length bytes
+  bad_head : (cause : Cause) → length bytes ≤ most_script_bytes → 1 ≤ length bytes
       → IsNoLine bytes cause → IsBadHead bytes 1 cause
-  no_header : (line later : List ℕ) → length bytes ≤ 8388608 → bytes ≡ line ++ 10 ∷ later → is_printable line ≡ true
-      → ((header : Head) → IsSetUp header.config → line ≢ header_text header) → IsBadHead bytes 1 Header
+  no_header : (line later : List ℕ) → length bytes ≤ most_script_bytes → bytes ≡ line ++ 10 ∷ later
+      → is_printable line ≡ true → ((header : Head) → IsSetUp header.config → line ≢ header_text header)
+      → IsBadHead bytes 1 Header
 
 -- the lines before this one are events', and here the next event's would begin
 -- for example: line 3 of `HEADER`, `show 0`, `fly`
@@ -177,7 +194,7 @@ pub record IsBadAt {Value Op : Type 0} (m : Meaning Value Op) (bytes : List ℕ)
   pub lines : List ℕ
   pub text : bytes ≡ line_of (header_text header) ++ lines
   pub valid : IsSetUp header.config
-  pub short : length bytes ≤ 8388608
+  pub short : length bytes ≤ most_script_bytes
   pub bad : IsBadAmong m header.config lines line cause
 
 -- want of memory has no cause
@@ -212,7 +229,7 @@ pub record IsRefusal {Value Op : Type 0}
     (m : Meaning Value Op) (bytes : List ℕ) (line : ℕ) (cause : Cause) : Type 0 where
   pub meaningless : IsNoScript m bytes
   pub fault : IsScriptFault m bytes (Line line cause)
-  pub long : (cause ≡ TooLong) ↔ (8388608 < length bytes)
+  pub long : (cause ≡ TooLong) ↔ (most_script_bytes < length bytes)
 
 -- where the fault is a line's, the bytes are refused so; want of memory has no cause
 abbrev pub IsRefused : {Value Op : Type 0} → Meaning Value Op → List ℕ → ScriptFault → Type 0

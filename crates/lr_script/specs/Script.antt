@@ -4,6 +4,7 @@ use Rattle.std.specs.List.{All, flat_map}
 use Rattle.lr_base.specs.Config.{IsValid}
 use Rattle.lr_base.specs.Events.{FitsRun}
 use Rattle.lr_base.specs.Kinds.{has_rules}
+use Rattle.lr_base.specs.Limits.{most_script_bytes}
 use Rattle.lr_base.specs.Meaning.{Meaning}
 use Rattle.lr_base.specs.declared.events.Event.{Event}
 use Rattle.lr_base.specs.declared.events.Event.TheVariants.{Call, Deliver, Gossip, Show}
@@ -63,14 +64,15 @@ pub record HasHeader (header : Header) (bytes : List ℕ) : Type 0 where
 -- for example: 2, where it is `lazyrep 1 mail 1 1 10`
 abbrev pub IsNamed : ℕ → List ℕ → Type 0
 IsNamed number bytes =
-    (header : Header) → HasHeader header bytes → length bytes ≤ 8388608 → service_number header.service ≡ number
+    (header : Header) → HasHeader header bytes → length bytes ≤ most_script_bytes
+    → service_number header.service ≡ number
 
 -- the bytes are few enough, and the text of this header and these events
 pub record IsScript {Value Op : Type 0}
     (m : Meaning Value Op) (header : Header) (events : List (Event Op)) (bytes : List ℕ) : Type 0 where
   pub valid : IsSetUp header.config
   pub fit : All (Fits m header.config) events
-  pub short : length bytes ≤ 8388608
+  pub short : length bytes ≤ most_script_bytes
   pub text : bytes ≡ script_text m header events
 
 -- there is a header with which the bytes are the script of these events, and they are so with each that they begin with

@@ -1,12 +1,15 @@
 //! Laws of scripts: each function does nothing, and its contract is the law.
-ghost use Rattle.std.specs.Prelude.{◌≡◌, ℕ, ◌++◌, List};
+ghost use Rattle.std.specs.Prelude.{◌≡◌, ℕ, ◌+◌, ◌≤◌, ◌++◌, ◌↔◌, List, length};
+ghost use Rattle.std.specs.List.{All};
+ghost use Rattle.lr_base.specs.Limits.{most_script_bytes};
 ghost use Rattle.lr_base.specs.declared.events.Event.{Event};
 ghost use Rattle.lr_base.specs.declared.names.Config.{Config};
-ghost use Rattle.lr_script.specs.Faults.{HasMeaning, IsRefusal, IsScriptFault};
-ghost use Rattle.lr_script.specs.Script.{EventFits, Fits, IsScript, IsSetUp, line_of};
+ghost use Rattle.lr_script.specs.Faults.{BeginsUnprintable, HasMeaning, IsRefusal, IsScriptFault};
+ghost use Rattle.lr_script.specs.Script.{EventFits, Fits, IsScript, IsSetUp, line_of, script_text};
 ghost use Rattle.lr_script.specs.Texts.{event_text};
 ghost use Rattle.lr_script.specs.declared.heading.Header.{Header};
 ghost use Rattle.lr_script.specs.declared.refusals.Cause.{Cause};
+ghost use Rattle.lr_script.specs.declared.refusals.Cause.TheVariants.{Byte};
 ghost use Rattle.lr_script.specs.declared.refusals.ScriptFault.TheVariants.{Line};
 
 use lr_base::lr_service::Service;
@@ -46,4 +49,16 @@ pub fn an_event_has_one_line<S: Service>()
     ensures first { (a b : Event S.Op) (x y : List ℕ) → EventFits S.meaning a → EventFits S.meaning b
         → line_of (event_text S.meaning a) ++ x ≡ line_of (event_text S.meaning b) ++ y
         → (a ≡ b) × (x ≡ y) }
+{}
+
+/// Where there aren't too many bytes and the lines before are right, a line is refused for a bad byte just where it has
+/// an end and one of its bytes is below the space or above the tilde, whatever else is wrong with it.
+pub fn a_bad_byte_is_an_unprintable_one<S: Service>()
+    ensures first { (bytes : List ℕ) → length bytes ≤ most_script_bytes
+        → IsScriptFault S.meaning bytes (Line 1 Byte) ↔ BeginsUnprintable bytes }
+    ensures later { (header : Header) (events : List (Event S.Op)) (rest : List ℕ) → IsSetUp header.config
+        → All (Fits S.meaning header.config) events
+        → length (script_text S.meaning header events ++ rest) ≤ most_script_bytes
+        → IsScriptFault S.meaning (script_text S.meaning header events ++ rest) (Line (length events + 2) Byte)
+        ↔ BeginsUnprintable rest }
 {}

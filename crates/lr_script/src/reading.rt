@@ -1,6 +1,7 @@
 //! The whole script, read from its bytes.
 ghost use Rattle.std.specs.Prelude.{◌≡◌, ◌≢◌, ℕ, ◌+◌, ◌<◌, ◌≤◌, ◌++◌, ◌↔◌, ◌⊎◌, List, length, IsTrue, IfOk, IfErr};
 ghost use Rattle.std.specs.List.{All};
+ghost use Rattle.lr_base.specs.Limits.{most_script_bytes};
 ghost use Rattle.lr_base.specs.declared.events.Event.{Event};
 ghost use Rattle.lr_script.specs.declared.heading.Header.{Header};
 ghost use Rattle.lr_script.specs.declared.refusals.Cause.{Cause};
@@ -15,22 +16,19 @@ use crate::heading::header_of;
 use crate::lines::first_line;
 use crate::{Cause, Header, ScriptFault};
 use lr_base::lr_service::Service;
-use lr_base::{Config, Event, Rows};
+use lr_base::{Config, Event, MOST_SCRIPT_BYTES, Rows};
 use std::alloc::Global;
-
-// The most bytes that a script has.
-const MOST_BYTES: usize = 8_388_608;
 
 /// The header that the bytes begin with. Nothing is asked of the lines behind it.
 pub fn read_header(bytes: &[u8]) -> Result<Header, ScriptFault>
     ensures ok { IfOk result (λ header. HasHeader header bytes.now) }
-    ensures long { (result ≡ Err (ScriptFault.Line 0 Cause.TooLong)) ↔ (8388608 < length bytes.now) }
+    ensures long { (result ≡ Err (ScriptFault.Line 0 Cause.TooLong)) ↔ (most_script_bytes < length bytes.now) }
     ensures err { IfErr result (IsHeadFault bytes.now) }
 
     // No memory is taken, and the answer is the one that the bytes allow.
     ensures memory { result ≢ Err ScriptFault.NoMemory }
     ensures header { (header : Header)
-        → (result ≡ Ok header) ↔ (HasHeader header bytes.now × (length bytes.now ≤ 8388608)) }
+        → (result ≡ Ok header) ↔ (HasHeader header bytes.now × (length bytes.now ≤ most_script_bytes)) }
     ensures fault { (line : ℕ) (cause : Cause)
         → (result ≡ Err (ScriptFault.Line line cause)) ↔ IsBadHead bytes.now line cause }
 {
@@ -78,12 +76,12 @@ pub fn read_script<S: Service>(
 fn split_header(bytes: &[u8]) -> Result<(Header, &[u8]), ScriptFault>
     ensures valid { IfOk result (λ parts. IsSetUp parts.0.config) }
     ensures text { IfOk result (λ parts. bytes.now ≡ line_of (header_text parts.0) ++ parts.1.now) }
-    ensures short { IfOk result (λ parts. length bytes.now ≤ 8388608) }
-    ensures long { (result ≡ Err (ScriptFault.Line 0 Cause.TooLong)) ↔ (8388608 < length bytes.now) }
+    ensures short { IfOk result (λ parts. length bytes.now ≤ most_script_bytes) }
+    ensures long { (result ≡ Err (ScriptFault.Line 0 Cause.TooLong)) ↔ (most_script_bytes < length bytes.now) }
     ensures err { IfErr result (IsHeadFault bytes.now) }
     ensures memory { result ≢ Err ScriptFault.NoMemory }
 {
-    if MOST_BYTES < bytes.len() {
+    if MOST_SCRIPT_BYTES < bytes.len() {
         return Err(ScriptFault::Line {
             line: 0,
             cause: Cause::TooLong,
@@ -113,7 +111,7 @@ fn read_events<S: Service>(
     config: Config,
     lines: &[u8],
 ) -> Result<Rows<Event<S::Op>>, ScriptFault>
-    requires { length lines.now ≤ 8388608 }
+    requires { length lines.now ≤ most_script_bytes }
     ensures fit { IfOk result (All (Fits S.meaning config)) }
     ensures text { IfOk result (λ events. lines.now ≡ events_text S.meaning events) }
     ensures err { IfErr result (IsLineFault S.meaning config lines.now) }
