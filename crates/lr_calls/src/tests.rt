@@ -63,9 +63,11 @@ fn calls_come_to_a_table_and_leave_it(rt: HostRuntime) -> Result<(), Fail> {
     assert!(rt; table.cids(rt.alloc())?.as_slice() == all.as_slice());
     assert_eq!(rt; number_of(&table, cid(0, 2)), Some(6));
     assert_eq!(rt; number_of(&table, cid(1, 2)), None);
+    let copied = table.copy()?;
     table.leave(&[cid(1, 1), cid(3, 3), cid(0, 1)]);
     let left = [cid(0, 2)];
     assert!(rt; table.cids(rt.alloc())?.as_slice() == left.as_slice());
     assert_eq!(rt; number_of(&table, cid(1, 1)), None);
+    assert_eq!(rt; number_of(&copied, cid(1, 1)), Some(5));
     Ok(())
 }
