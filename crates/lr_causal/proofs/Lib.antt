@@ -1,11 +1,10 @@
 mod Each
+mod Entered
 mod Facts
 mod Kept
 mod LabelLemmas
 mod Points
 mod Received
 mod Remembering
-mod SortedCalls
 mod StampRows
-mod Tables
 mod Waiting

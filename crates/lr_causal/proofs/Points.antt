@@ -19,8 +19,8 @@ use Rattle.lr_base.specs.Logged.{AllAcksReceived, AllReceived}
 use Rattle.lr_causal.specs.Savepoint.{HasShapeOf, IsPointOf, Lags, Saved, kept_first, put_back_in, restored}
 use Rattle.lr_causal.proofs.Kept.{filter-none, filter-insert, filter-insert_all}
 use Rattle.lr_causal.proofs.Each.{Each-passes}
-use Rattle.lr_causal.specs.Tables.{without}
-use Rattle.lr_causal.proofs.Tables.{without-none}
+use Rattle.lr_calls.specs.Tables.{without}
+use Rattle.lr_calls.specs.TableLaws.{without-none}
 use Rattle.lr_causal.proofs.Received.{new-earlier, set_part-above}
 use Rattle.lr_log.specs.Items.{Items, items_of}
 

@@ -2,4 +2,3 @@ pub mod Causal
 pub mod GossipLaws
 pub mod Savepoint
 pub mod State
-pub mod Tables

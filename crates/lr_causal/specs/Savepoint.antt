@@ -9,7 +9,7 @@ use Rattle.lr_base.specs.Replicas.{ReplicaState}
 use Rattle.lr_base.specs.Rules.{CausalState, is_new}
 use Rattle.lr_base.specs.Stamps.{stamp_le}
 use Rattle.lr_base.specs.declared.names.Cid.{Cid}
-use Rattle.lr_causal.specs.Tables.{without}
+use Rattle.lr_calls.specs.Tables.{without}
 use Rattle.lr_value.specs.Applied.{Applied, Lagging}
 
 -- what a savepoint remembers of a state: the stamps and the one row that a step may overwrite, which calls were entered

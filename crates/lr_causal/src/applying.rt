@@ -1,12 +1,13 @@
 //! Applying what is ready, while it is noted which calls are entered.
 ghost use Rattle.std.specs.Prelude.{◌≡◌, length, IfOk, OnOk, OnErr};
-ghost use Rattle.lr_causal.specs.Tables.{without};
+ghost use Rattle.lr_calls.specs.Tables.{without};
 ghost use Rattle.lr_value.specs.Applied.{GoesOn, IsOlderOf, all_ready, progress};
 ghost use Rattle.lr_value.specs.Remembered.{IsLogOf, IsSettledAt};
 
-use crate::calls::{CallTable, Entering};
+use crate::entering::Entering;
 use lr_base::lr_service::Service;
 use lr_base::{Cid, NoMemory, Stamp};
+use lr_calls::CallTable;
 use lr_log::Log;
 use lr_value::{Older, Value};
 use std::mem;

@@ -6,14 +6,13 @@ ghost use Rattle.lr_causal.specs.Causal.{AllStamps, HasSeen, NoneApplied};
 ghost use Rattle.lr_value.specs.Remembered.{Remembers};
 
 use crate::applying::apply_ready;
-use crate::calls::CallTable;
 use crate::gossip::{new_acks, new_updates};
 use crate::heard::{copy_table, first_table, join_row, put_row, row_of};
 use crate::labels::{is_applied, none_applied};
-use crate::lateness::late;
 use crate::savepoint::{Savepoint, put_back};
 use lr_base::lr_service::{Operation, Service};
 use lr_base::{Call, Cid, Config, Fresh, Gossip, Known, LogUpdate, NoMemory, Spot, Stamp, Text};
+use lr_calls::{CallTable, late};
 use lr_log::Log;
 use lr_value::Value;
 use std::alloc::Global;

@@ -2,15 +2,12 @@
 #![tactic(auto)]
 
 mod applying;
-mod calls;
 mod causal;
+mod entering;
 mod gossip;
 mod heard;
 mod labels;
-mod lateness;
 mod savepoint;
 
-pub use calls::CallTable;
 pub use causal::Causal;
-pub use lateness::late;
 pub use savepoint::Savepoint;

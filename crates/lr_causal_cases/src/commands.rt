@@ -9,7 +9,8 @@ use crate::steps::{accept, hear, hear_acks, hold, read};
 use crate::texts::{cid, cut, number_of, small_number_of};
 use crate::undone::{accept_undone, hear_undone};
 use lr_base::Config;
-use lr_causal::{Causal, late};
+use lr_calls::late;
+use lr_causal::Causal;
 use std::alloc::Global;
 use svc_tally::Tally;
 

@@ -1,6 +1,6 @@
 use Rattle.std.proofs.Common.{◌∙◌, length}
-use Rattle.lr_causal.specs.Tables.{without}
-use Rattle.lr_causal.proofs.Tables.{kept-is, kept-undone}
+use Rattle.lr_calls.specs.Tables.{without}
+use Rattle.lr_causal.proofs.Entered.{kept-is, kept-undone}
 use Rattle.lr_causal.proofs.applying.apply_ready.Goals as goal
 
 pub returns-in-Ok-clause-undo : goal.returns-in-Ok-clause-undo

@@ -5,7 +5,7 @@ use Rattle.lr_value.specs.Remembered.{Remembers}
 use Rattle.lr_causal.specs.Causal.{HasSeen, NoneApplied}
 use Rattle.lr_causal.specs.Savepoint.{Saved, kept_first}
 use Rattle.lr_causal.specs.State.{state_of}
-use Rattle.lr_causal.specs.Tables.{without}
+use Rattle.lr_calls.specs.Tables.{without}
 use Rattle.lr_causal.proofs.Facts.{AllLogged-along}
 use Rattle.lr_causal.proofs.Points.{point-applied}
 use Rattle.lr_causal.proofs.Remembering.{HasSeen-looked}

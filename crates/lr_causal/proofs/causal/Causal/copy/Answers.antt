@@ -3,7 +3,7 @@ use Rattle.lr_log.specs.Items.{Items}
 use Rattle.lr_causal.proofs.Facts.{AllLogged-along}
 use Rattle.lr_causal.proofs.Received.{AllAcksReceived-along, AllReceived-along}
 use Rattle.lr_causal.proofs.StampRows.{AllStamps-along}
-use Rattle.lr_causal.proofs.Tables.{AllKnown-along}
+use Rattle.lr_causal.proofs.Entered.{AllKnown-along}
 use Rattle.lr_causal.proofs.Waiting.{NoneApplied-along}
 use Rattle.lr_causal.proofs.causal.Causal.copy.Goals as goal
 

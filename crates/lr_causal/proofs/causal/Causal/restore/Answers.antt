@@ -3,7 +3,7 @@ use Rattle.lr_causal.specs.Savepoint.{Saved}
 use Rattle.lr_causal.proofs.Facts.{AllLogged-filter}
 use Rattle.lr_causal.proofs.Received.{AllAcksReceived-stays, AllReceived-stays}
 use Rattle.lr_causal.proofs.StampRows.{AllStamps-count}
-use Rattle.lr_causal.proofs.Tables.{AllKnown-without}
+use Rattle.lr_causal.proofs.Entered.{AllKnown-without}
 use Rattle.lr_causal.proofs.causal.Causal.restore.Goals as goal
 
 pub invariant_of-self-clause-updates_received : goal.invariant_of-self-clause-updates_received

@@ -1,7 +1,7 @@
 use Rattle.std.proofs.Common.{◌∙◌, ap, sym, is_some}
 use Rattle.lr_base.specs.Rules.{known_of}
-use Rattle.lr_causal.proofs.Tables.{known-by_call, lookup-known_of}
-use Rattle.lr_causal.proofs.calls.CallTable.has.Goals as goal
+use Rattle.lr_calls.proofs.Tables.{known-by_call, lookup-known_of}
+use Rattle.lr_calls.proofs.calls.CallTable.has.Goals as goal
 
 pub returns : goal.returns
 returns c =

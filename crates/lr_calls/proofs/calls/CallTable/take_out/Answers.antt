@@ -1,8 +1,8 @@
 use Rattle.std.proofs.Common.{◌∙◌, ◌∷◌, [], ap, sym, cond, None}
 use Rattle.lr_base.specs.Ascending.{same_cid}
-use Rattle.lr_causal.specs.Tables.{without}
-use Rattle.lr_causal.proofs.Tables.{by_call-removed, lookup-known_of}
-use Rattle.lr_causal.proofs.calls.CallTable.take_out.Goals as goal
+use Rattle.lr_calls.specs.Tables.{without}
+use Rattle.lr_calls.proofs.Tables.{by_call-removed, lookup-known_of}
+use Rattle.lr_calls.proofs.calls.CallTable.take_out.Goals as goal
 
 pub returns : goal.returns
 returns c =

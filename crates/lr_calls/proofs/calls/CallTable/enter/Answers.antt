@@ -2,8 +2,8 @@ use Rattle.std.proofs.Common.{◌∙◌, ap, sym, cond, Some}
 use Rattle.lr_base.specs.Ascending.{same_cid}
 use Rattle.lr_base.specs.Calls.{enter_call}
 use Rattle.lr_base.specs.Rules.{known_of}
-use Rattle.lr_causal.proofs.Tables.{by_call-inserted, lookup-known_of}
-use Rattle.lr_causal.proofs.calls.CallTable.insert.Goals as goal
+use Rattle.lr_calls.proofs.Tables.{by_call-inserted, lookup-known_of}
+use Rattle.lr_calls.proofs.calls.CallTable.enter.Goals as goal
 
 pub returns-clause-ok : goal.returns-clause-ok
 returns-clause-ok c =

@@ -1,7 +1,7 @@
 use Rattle.std.proofs.Common.{◌∙◌, ap, drop, ◌+◌, arith}
-use Rattle.lr_causal.specs.Tables.{without}
-use Rattle.lr_causal.proofs.Tables.{leave-done, leave-next}
-use Rattle.lr_causal.proofs.calls.CallTable.leave.Goals as goal
+use Rattle.lr_calls.specs.Tables.{without}
+use Rattle.lr_calls.proofs.Tables.{leave-done, leave-next}
+use Rattle.lr_calls.proofs.calls.CallTable.leave.Goals as goal
 
 pub loop-cid-preserved : goal.loop-cid-preserved
 loop-cid-preserved c =

@@ -1,8 +1,8 @@
 use Rattle.std.proofs.Common.{◌∙◌, ap, map, subst}
 use Rattle.lr_base.specs.Calls.{AreByCall}
-use Rattle.lr_causal.proofs.SortedCalls.{sorted_calls}
-use Rattle.lr_causal.proofs.Tables.{AreByCall-by_call}
-use Rattle.lr_causal.proofs.calls.CallTable.cids.Goals as goal
+use Rattle.lr_calls.proofs.SortedCalls.{sorted_calls}
+use Rattle.lr_calls.proofs.Tables.{AreByCall-by_call}
+use Rattle.lr_calls.proofs.calls.CallTable.cids.Goals as goal
 
 pub returns-clause-cids : goal.returns-clause-cids
 returns-clause-cids c =

@@ -1,6 +1,6 @@
 use Rattle.std.proofs.Common.{◌≡◌, drop}
-use Rattle.lr_causal.specs.Tables.{without}
-use Rattle.lr_causal.proofs.calls.CallTable.leave.Given as goal
+use Rattle.lr_calls.specs.Tables.{without}
+use Rattle.lr_calls.proofs.calls.CallTable.leave.Given as goal
 
 -- once the others have left too, all have
 abbrev pub invariant-loop-cid : goal.invariant-loop-cid

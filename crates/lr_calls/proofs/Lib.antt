@@ -1,0 +1,2 @@
+mod SortedCalls
+mod Tables
