@@ -12,6 +12,7 @@ pub mod Names
 pub mod Central
 pub mod Orderings
 pub mod Answers
+pub mod Fitting
 pub mod Tables
 pub mod Told
 pub mod Slow

@@ -1,5 +1,7 @@
 //! Laws about legal histories: each function does nothing, and its contract is the law.
+ghost use Rattle.std.specs.List.{All};
 ghost use Rattle.std.specs.Prelude.{◌≡◌, ◌<◌, ◌++◌, ◌∷◌, ℕ, [], List, Some, map, slice_get};
+ghost use Rattle.lr_base.specs.Config.{IsValid};
 ghost use Rattle.lr_base.specs.Events.{IsEventOf};
 ghost use Rattle.lr_base.specs.Replicas.{ReplicaState};
 ghost use Rattle.lr_base.specs.declared.events.Outcome.TheVariants.{Send};
@@ -7,6 +9,7 @@ ghost use Rattle.lr_graph.specs.After.{Handling, line_read};
 ghost use Rattle.lr_graph.specs.Answers.{HasPrintableAnswer};
 ghost use Rattle.lr_graph.specs.Central.{IsCentral, facts_after};
 ghost use Rattle.lr_graph.specs.Closed.{Each, IsClosed, IsSound, IsWithin};
+ghost use Rattle.lr_graph.specs.Fitting.{HistoryFits, OutcomeFits};
 ghost use Rattle.lr_graph.specs.Graph.{Acceptance, Facts, first_facts, ready, value};
 ghost use Rattle.lr_graph.specs.Legal.{IsLegal};
 ghost use Rattle.lr_graph.specs.Made.{IsMade, made_step};
@@ -102,4 +105,12 @@ pub fn answers_are_printable<S: Service>()
     ensures { (config : Config) (steps : List (Step S.Op))
         → IsLegal S.meaning config steps
         → Each (λ step. Each HasPrintableAnswer step.outcomes) steps }
+{}
+
+/// All that is printed of a legal history fits: each number in 64 bits, and each answer on its line. The history must
+/// have fewer than 2^64 steps, and so small have to be its clocks' readings and the numbers of what it delivers.
+pub fn what_is_printed_fits<S: Service>()
+    ensures { (config : Config) (steps : List (Step S.Op))
+        → IsValid config → IsLegal S.meaning config steps → HistoryFits steps
+        → Each (λ step. All OutcomeFits step.outcomes) steps }
 {}

@@ -7,7 +7,7 @@ use Rattle.std.proofs.lemmas.Bool.{lt-ltb}
 use Rattle.std.proofs.lemmas.Bool.Decides.{nat_tests}
 use Rattle.std.proofs.lemmas.Fmt.{decimal_injective, decimal_nonempty}
 use Rattle.std.proofs.lemmas.List.Elements.{All-head, All-tail}
-use Rattle.lr_report.specs.Tellable.{NumberFits, HasNoFeed}
+use Rattle.lr_graph.specs.Fitting.{NumberFits, HasNoFeed}
 use Rattle.lr_script.specs.CutLaws.{all_head, all_tail}
 
 -- a byte from 0 to 9

@@ -7,7 +7,7 @@ use Rattle.std.proofs.lemmas.Bool.Decides.{nat_tests}
 use Rattle.std.proofs.lemmas.List.Elements.{All-head, All-tail}
 use Rattle.lr_base.specs.declared.names.Actor.TheVariants.{Client, Replica}
 use Rattle.lr_report.specs.Printed.{joined_by, mark_text}
-use Rattle.lr_report.specs.Tellable.{NumberFits, CidFits, SpotFits, MarkFits, ActorFits}
+use Rattle.lr_graph.specs.Fitting.{NumberFits, CidFits, SpotFits, MarkFits, ActorFits}
 use Rattle.lr_report.specs.Texts.{cid_text, place_text, spot_text, actor_text}
 use Rattle.lr_report.proofs.DigitsApart.{is_digit, starts_with_digit, goes_on, number_apart, number_begins, unlike}
 

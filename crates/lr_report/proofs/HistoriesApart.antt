@@ -11,8 +11,9 @@ use Rattle.lr_base.specs.declared.events.Outcome.{Outcome}
 use Rattle.lr_base.specs.declared.events.Step.{Step}
 use Rattle.lr_base.specs.declared.names.Config.{Config}
 use Rattle.lr_report.specs.Printed.{outcome_text, outcome_line, steps_text, printed}
-use Rattle.lr_script.specs.Script.{line_of}
-use Rattle.lr_report.specs.Tellable.{OutcomeFits, EventFits, IsTellable}
+use Rattle.lr_script.specs.Script.{EventFits, line_of}
+use Rattle.lr_graph.specs.Fitting.{OutcomeFits}
+use Rattle.lr_report.specs.Tellable.{IsTellable}
 use Rattle.lr_script.specs.Texts.{event_text, header_text}
 use Rattle.lr_script.specs.declared.heading.Header.{Header}
 use Rattle.lr_script.specs.CutLaws.{all_head}

@@ -3,4 +3,5 @@ pub mod FieldsApart
 pub mod StatesApart
 pub mod OutcomesApart
 pub mod HistoriesApart
+pub mod LegalApart
 pub mod PrintedLemmas

@@ -7,7 +7,7 @@ use Rattle.lr_base.specs.declared.events.Sent.TheVariants.{Update, Query, Done, 
 use Rattle.lr_base.specs.declared.names.Actor.{Actor}
 use Rattle.lr_base.specs.declared.names.Cid.{Cid}
 use Rattle.lr_report.specs.Printed.{sent_text, refusal_text, outcome_text}
-use Rattle.lr_report.specs.Tellable.{NumberFits, CidFits, SpotFits, ActorFits, SentFits, RefusalFits, OutcomeFits}
+use Rattle.lr_graph.specs.Fitting.{NumberFits, CidFits, SpotFits, ActorFits, SentFits, RefusalFits, OutcomeFits}
 use Rattle.lr_report.specs.Texts.{cid_text, spot_text, actor_text}
 use Rattle.lr_script.specs.CutLaws.{cut_one}
 use Rattle.lr_report.proofs.DigitsApart.{starts_with_digit, number_apart, feedless, unlike}

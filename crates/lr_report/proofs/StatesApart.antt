@@ -4,7 +4,7 @@ use Rattle.std.specs.Fmt.{decimal}
 use Rattle.std.specs.List.{All}
 use Rattle.lr_base.specs.declared.events.StateLine.{StateLine}
 use Rattle.lr_report.specs.Printed.{joined_by, mark_text, clock_fields, log_fields, call_fields}
-use Rattle.lr_report.specs.Tellable.{NumberFits, CidFits, SpotFits, MarkFits, StateFits}
+use Rattle.lr_graph.specs.Fitting.{NumberFits, CidFits, SpotFits, MarkFits, StateFits}
 use Rattle.lr_report.specs.Texts.{cid_text, spot_text}
 use Rattle.lr_report.proofs.DigitsApart.{goes_on, number_apart}
 use Rattle.lr_report.proofs.FieldsApart.{Tells, TellsLine, first_apart, number_first, cid_apart, spot_apart, mark_apart, number_shows, cid_shows, spot_shows, mark_shows, list_apart}

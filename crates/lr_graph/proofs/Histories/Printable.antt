@@ -46,10 +46,10 @@ others-printable lines others = each-map (IsOther IsPrinted) HasPrintableAnswer 
 
 module _ {Value Op : Type 0} (m : Meaning Value Op) where
   -- an operation of the service
-  abbrev IsOp : Op → Type 0
+  abbrev pub IsOp : Op → Type 0
   IsOp op = m.is_op op ≡ true
 
-  calls-ops : (config : Config) (event : Event Op) → is_event_in m config event ≡ true → CallsFine m IsOp event
+  pub calls-ops : (config : Config) (event : Event Op) → is_event_in m config event ≡ true → CallsFine m IsOp event
   calls-ops config (Call client replica reading op) own =
       λ update. and-right (nat_lt replica config.replicas) _ (and-right (nat_lt client config.clients) _ own)
   calls-ops config (Deliver message) is = tt
@@ -76,7 +76,7 @@ module _ {Value Op : Type 0} (m : Meaning Value Op) {e : Encoding Value} (kind_o
       split false is = is
 
   -- what a replica would answer is printable
-  answers-fine : (w : Facts Op) → Holds (IsOp m) w → AnswersFine m IsPrinted w
+  pub answers-fine : (w : Facts Op) → Holds (IsOp m) w → AnswersFine m IsPrinted w
   answers-fine w h i op = lawful.printable_answer _ op (value-is w.accepted (ready w.accepted (w.received i)) h.accepted)
 
   own-printable : (config : Config) (w : Facts Op) (event : Event Op) → Holds (IsOp m) w → Each HasPrintableAnswer (own_lines m config w event)
