@@ -4,4 +4,5 @@ pub mod StatesApart
 pub mod OutcomesApart
 pub mod HistoriesApart
 pub mod LegalApart
+pub mod ScriptsFit
 pub mod PrintedLemmas

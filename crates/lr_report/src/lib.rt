@@ -7,5 +7,5 @@ mod outcome_lines;
 mod rendering;
 mod state_lines;
 
-pub use laws::printed_tells_histories_apart;
+pub use laws::{histories_of_scripts_fit, printed_tells_histories_apart};
 pub use rendering::{render_header, render_printed_step, render_step};
