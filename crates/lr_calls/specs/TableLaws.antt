@@ -44,7 +44,8 @@ named-append (c ∷ a) b cid = go (same_cid cid c) (named-append a b cid)
     go false rest = rest
 
 -- calls of two lists leave at once or one list after the other, in either order
-pub without-append : (a b : List Cid) (calls : List (Cid × Known)) → without (a ++ b) calls ≡ without a (without b calls)
+pub without-append : (a b : List Cid) (calls : List (Cid × Known))
+    → without (a ++ b) calls ≡ without a (without b calls)
 without-append a b calls =
     sym (filter-both (λ e. not (is_named a e.0)) (λ e. not (is_named b e.0)) (λ e. not (is_named (a ++ b) e.0))
     (λ e. ap not (named-append a b e.0) ∙ go (is_named a e.0) (is_named b e.0)) calls)
@@ -55,7 +56,8 @@ without-append a b calls =
     go false true = refl
     go false false = refl
 
-pub without-behind : (a b : List Cid) (calls : List (Cid × Known)) → without (a ++ b) calls ≡ without b (without a calls)
+pub without-behind : (a b : List Cid) (calls : List (Cid × Known))
+    → without (a ++ b) calls ≡ without b (without a calls)
 without-behind a b calls =
     sym (filter-both (λ e. not (is_named b e.0)) (λ e. not (is_named a e.0)) (λ e. not (is_named (a ++ b) e.0))
     (λ e. ap not (named-append a b e.0) ∙ go (is_named a e.0) (is_named b e.0)) calls)
