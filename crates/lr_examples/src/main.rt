@@ -16,7 +16,7 @@ fn main(rt: HostRuntime) -> io::Result<()> {
         let script = fs::read_to_string(&rt, name.as_str())?;
         let want = fs::read_to_string(&rt, format!(in alloc; "{name}.stdout")?.as_str())?;
         let verdict = match history_of(alloc, script.as_bytes()) {
-            Ok(history) => verdict(history.bytes().as_slice(), want.as_bytes()),
+            Ok(history) => verdict(history.bytes(), want.as_bytes()),
             Err(_) => "no history",
         };
         println!(rt; "{name}: {verdict}")?;

@@ -11,10 +11,12 @@ pub record Supply : Type 0 where
   pub calls : ℕ
   pub faults : ℕ
 
--- the bytes held, the numbers of the calls that are to fail, how many calls were made, and how many failed
--- for example: `abc` held
+-- the bytes held, how many more find room before memory is asked for, the numbers of the calls that are to fail, how
+-- many calls were made, and how many failed
+-- for example: `abc` held, with room for 5 more
 pub record Store : Type 0 where
   pub held : List ℕ
+  pub room : ℕ
   pub failing : List ℕ
   pub calls : ℕ
   pub faults : ℕ

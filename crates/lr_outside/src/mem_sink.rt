@@ -1,5 +1,5 @@
 //! A sink in memory, whose failures are known beforehand.
-ghost use Rattle.std.specs.Prelude.{◌≡◌, ◌++◌, [], length, IsTrue, IsErr, IfOk, OnOk, OnErr};
+ghost use Rattle.std.specs.Prelude.{◌≡◌, ◌<◌, ◌++◌, ◌⊎◌, [], length, IsTrue, IsErr, IfOk, OnOk, OnErr};
 ghost use Rattle.lr_outside.specs.Calls.{IsWriteCall};
 ghost use Rattle.lr_outside.specs.Faults.{one_more};
 ghost use Rattle.lr_outside.specs.Memory.{is_listed, store_seen};
@@ -15,19 +15,21 @@ use std::marker::Model;
 /// that finds no memory. Calls are numbered from 1, failing ones too; a number stays at 2^64 - 1.
 #[derive(Debug, Drop)]
 pub struct MemSink {
-    bytes: Rows<u8>,
+    bytes: Vec<u8>,
     failing: Rows<u64>,
     calls: u64,
     faults: u64,
 }
 
 impl Model for MemSink {
+    ghost use Rattle.std.specs.Prelude.{◌-◌, vec_capacity, vec_len};
     ghost use Rattle.lr_outside.specs.Memory.{Store};
 
     ghost Value = { Store };
 
     ghost view = { λ it. record {
-      held = it.bytes;
+      held = it.bytes.items;
+      room = vec_capacity it.bytes - vec_len it.bytes;
       failing = it.failing;
       calls = it.calls;
       faults = it.faults;
@@ -37,10 +39,10 @@ impl Model for MemSink {
 impl MemSink {
     /// A sink that holds nothing, whose writes of these numbers fail.
     pub fn new(alloc: Global, failing: Rows<u64>) -> MemSink
-        ensures { result ≡ record { held = []; failing = failing; calls = 0; faults = 0 } }
+        ensures { result ≡ record { held = []; room = 0; failing = failing; calls = 0; faults = 0 } }
     {
         MemSink {
-            bytes: Rows::new(alloc),
+            bytes: Vec::new(alloc),
             failing,
             calls: 0,
             faults: 0,
@@ -48,10 +50,10 @@ impl MemSink {
     }
 
     /// The bytes held.
-    pub fn bytes(&self) -> &Rows<u8>
+    pub fn bytes(&self) -> &[u8]
         ensures { result.now ≡ self.now.held }
     {
-        &self.bytes
+        self.bytes.as_slice()
     }
 }
 
@@ -61,20 +63,29 @@ impl Sink for MemSink {
     fn write(&mut self, piece: &[u8]) -> Result<usize, Failed>
         ensures written { IsWriteCall (sink_change store_seen self.old self.new) result piece.now }
 
-        // The listed calls fail, and each other one takes the whole piece unless there is no memory.
+        // The listed calls fail, and each other one takes the whole piece, unless there is no memory: so it never fails
+        // where the piece finds room already.
         ensures listed { IsTrue (is_listed self.old.failing (one_more self.old.calls)) → IsErr result }
+        ensures lacking { OnErr result (IsTrue (is_listed self.old.failing (one_more self.old.calls))
+            ⊎ (self.old.room < length piece.now)) }
         ensures whole { IfOk result (λ n. n ≡ length piece.now) }
-        ensures ok { OnOk result (self.new ≡
-            record self.old { held = self.old.held ++ piece.now; calls = one_more self.old.calls }) }
-        ensures err { OnErr result (self.new ≡
-            record self.old { calls = one_more self.old.calls; faults = one_more self.old.faults }) }
+        ensures ok { OnOk result (self.new ≡ record self.old {
+          held = self.old.held ++ piece.now;
+          room = self.new.room;
+          calls = one_more self.old.calls;
+        }) }
+        ensures err { OnErr result (self.new ≡ record self.old {
+          room = self.new.room;
+          calls = one_more self.old.calls;
+          faults = one_more self.old.faults;
+        }) }
     {
         self.calls = self.calls.saturating_add(1);
         if self.failing.as_slice().contains(&self.calls) {
             self.faults = self.faults.saturating_add(1);
             return Err(Failed);
         }
-        let Ok(()) = self.bytes.extend(piece) else {
+        let Ok(()) = self.bytes.extend_from_slice(piece) else {
             self.faults = self.faults.saturating_add(1);
             return Err(Failed);
         };

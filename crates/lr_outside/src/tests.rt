@@ -42,7 +42,7 @@ fn a_sink_fails_at_its_listed_write_alone(rt: HostRuntime) -> Result<(), Fail> {
     ];
     for (piece, want, held) in writes {
         assert_eq!(rt; sink.write(piece).ok(), want);
-        assert_eq!(rt; sink.bytes().as_slice(), held);
+        assert_eq!(rt; sink.bytes(), held);
     }
     Ok(())
 }

@@ -109,8 +109,8 @@ fn other_words_and_bad_scripts_are_refused(rt: HostRuntime) -> Result<(), Fail> 
         let mut err = sink(alloc, &[])?;
         let status = lazyrep_top(alloc, words.as_slice(), &mut input, &mut out, &mut err);
         assert_eq!(rt; status.code, code, "for {script:?}");
-        assert_eq!(rt; err.bytes().as_slice(), told.as_bytes(), "for {script:?}");
-        assert_eq!(rt; out.bytes().as_slice(), b"".as_slice(), "for {script:?}");
+        assert_eq!(rt; err.bytes(), told.as_bytes(), "for {script:?}");
+        assert_eq!(rt; out.bytes(), b"".as_slice(), "for {script:?}");
     }
     Ok(())
 }
@@ -124,9 +124,9 @@ fn a_script_ends_well_and_tells_nothing(rt: HostRuntime) -> Result<(), Fail> {
     let mut err = sink(alloc, &[])?;
     let status = lazyrep_top(alloc, words.as_slice(), &mut input, &mut out, &mut err);
     assert_eq!(rt; status.code, 0);
-    assert_eq!(rt; err.bytes().as_slice(), b"".as_slice());
+    assert_eq!(rt; err.bytes(), b"".as_slice());
     assert_eq!(rt;
-        out.bytes().as_slice(),
+        out.bytes(),
         b"lazyrep 1 tally 1 1 10\n1: deliver 1\n  none 1\n".as_slice()
     );
     Ok(())
@@ -141,8 +141,8 @@ fn a_read_that_fails_leaves_the_output_empty(rt: HostRuntime) -> Result<(), Fail
     let mut err = sink(alloc, &[])?;
     let status = lazyrep_top(alloc, words.as_slice(), &mut input, &mut out, &mut err);
     assert_eq!(rt; status.code, 4);
-    assert_eq!(rt; out.bytes().as_slice(), b"".as_slice());
-    assert_eq!(rt; err.bytes().as_slice(), b"lazyrep: read fault\n".as_slice());
+    assert_eq!(rt; out.bytes(), b"".as_slice());
+    assert_eq!(rt; err.bytes(), b"lazyrep: read fault\n".as_slice());
     Ok(())
 }
 
@@ -157,7 +157,7 @@ fn a_full_output_holds_the_first_bytes(rt: HostRuntime) -> Result<(), Fail> {
     assert_eq!(rt; status.code, 5);
     assert_eq!(rt; out.bytes(), b"lazyrep 1 tally 1 1 ".as_slice());
     assert_eq!(rt;
-        err.bytes().as_slice(),
+        err.bytes(),
         b"lazyrep: write fault\n".as_slice()
     );
     Ok(())
@@ -173,7 +173,7 @@ fn a_failing_standard_error_changes_no_status(rt: HostRuntime) -> Result<(), Fai
         let mut err = sink(alloc, &[1])?;
         let status = lazyrep_top(alloc, words.as_slice(), &mut input, &mut out, &mut err);
         assert_eq!(rt; status.code, code, "for {word}");
-        assert_eq!(rt; err.bytes().as_slice(), b"".as_slice());
+        assert_eq!(rt; err.bytes(), b"".as_slice());
     }
     Ok(())
 }

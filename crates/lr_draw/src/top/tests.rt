@@ -47,7 +47,7 @@ fn other_words_and_bad_lines_are_refused(rt: HostRuntime) -> Result<(), Fail> {
         let mut err = sink(alloc, &[])?;
         let status = draw_top(alloc, words.as_slice(), &mut input, &mut out, &mut err);
         assert_eq!(rt; status.code, code, "for {bytes:?}");
-        assert_eq!(rt; err.bytes().as_slice(), told.as_bytes(), "for {bytes:?}");
+        assert_eq!(rt; err.bytes(), told.as_bytes(), "for {bytes:?}");
         assert_eq!(rt; out.bytes().len(), 0, "for {bytes:?}");
     }
     Ok(())
@@ -62,8 +62,8 @@ fn a_read_that_fails_leaves_the_output_empty(rt: HostRuntime) -> Result<(), Fail
     let mut err = sink(alloc, &[])?;
     let status = draw_top(alloc, words.as_slice(), &mut input, &mut out, &mut err);
     assert_eq!(rt; status.code, 4);
-    assert_eq!(rt; out.bytes().as_slice(), b"".as_slice());
-    assert_eq!(rt; err.bytes().as_slice(), b"draw: read fault\n".as_slice());
+    assert_eq!(rt; out.bytes(), b"".as_slice());
+    assert_eq!(rt; err.bytes(), b"draw: read fault\n".as_slice());
     Ok(())
 }
 
@@ -77,7 +77,7 @@ fn a_full_output_holds_the_first_bytes(rt: HostRuntime) -> Result<(), Fail> {
     let status = draw_top(alloc, words.as_slice(), &mut input, &mut out, &mut err);
     assert_eq!(rt; status.code, 5);
     assert_eq!(rt; out.bytes(), b"<svg xmlns='http://w".as_slice());
-    assert_eq!(rt; err.bytes().as_slice(), b"draw: write fault\n".as_slice());
+    assert_eq!(rt; err.bytes(), b"draw: write fault\n".as_slice());
     Ok(())
 }
 
