@@ -1,5 +1,6 @@
 -- What an end says, from what was said of the parts.
 use Rattle.std.proofs.Common.{◌≡◌, ◌≤◌, ◌⊎◌, inl, inr, ℕ, List, [], length, Option, Result, Ok, Err, refl, sym, subst, ◌∙◌, arith}
+use Rattle.lr_base.specs.Limits.{most_script_bytes}
 use Rattle.lr_base.specs.Meaning.{Meaning}
 use Rattle.lr_base.specs.declared.events.Event.{Event}
 use Rattle.lr_outside.specs.Faults.{Rose, one_more}
@@ -108,8 +109,8 @@ module _ (header : Header) (bytes : List ℕ) (has : HasHeader header bytes) (on
 
 -- a header that was read is the only one that the bytes begin with
 pub one-header : (header : Header) (bytes : List ℕ) (result : Result Header ScriptFault) → result ≡ Ok header
-    → length bytes ≤ 8388608
-    → ((other : Header) → HasHeader other bytes × (length bytes ≤ 8388608) → result ≡ Ok other)
+    → length bytes ≤ most_script_bytes
+    → ((other : Header) → HasHeader other bytes × (length bytes ≤ most_script_bytes) → result ≡ Ok other)
     → (other : Header) → HasHeader other bytes → other ≡ header
 one-header header bytes result is short reads other begins =
     let same : Ok other ≡ Ok header = sym (reads other (begins, short)) ∙ is in

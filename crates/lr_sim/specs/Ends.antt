@@ -1,5 +1,6 @@
 -- To be believed: how a simulation ends.
-use Rattle.std.specs.Prelude.{◌≡◌, ◌≢◌, ◌<◌, ◌⊎◌, ◌↔◌, ℕ, List, length}
+use Rattle.std.specs.Prelude.{◌≡◌, ◌≢◌, ◌+◌, ◌<◌, ◌⊎◌, ◌↔◌, ℕ, List, length}
+use Rattle.lr_base.specs.Limits.{most_script_bytes}
 use Rattle.lr_base.specs.Meaning.{Meaning}
 use Rattle.lr_base.specs.declared.events.Event.{Event}
 use Rattle.lr_outside.specs.Calls.{HasRead}
@@ -16,9 +17,9 @@ use Rattle.lr_sim.specs.Services.{HoldsOf}
 use Rattle.lr_sim.specs.declared.command.SimEnd.{SimEnd}
 use Rattle.lr_sim.specs.declared.command.SimEnd.TheVariants.{Ok as Done, Script, ReadFault, WriteFault, NoMemory}
 
--- these bytes were read, with no fault: the input to its end, or its first 8,388,609 bytes, which are too many
+-- these bytes were read, with no fault: the input to its end, or the first one byte more than a script may have
 abbrev pub HasReadInput : SourceChange → List ℕ → Type 0
-HasReadInput source bytes = HasRead 8388609 source bytes
+HasReadInput source bytes = HasRead (most_script_bytes + 1) source bytes
 
 -- the bytes are a script of the service that its header names, and the legal history of its events was written, whole
 pub record HasRun {Out : Type 0} (bytes : List ℕ) (sink : SinkChange Out) : Type 0 where
@@ -47,7 +48,7 @@ pub record IsBadBehind (bytes : List ℕ) (line : ℕ) (cause : Cause) : Type 0 
 pub record IsRefusedFor (bytes : List ℕ) (line : ℕ) (cause : Cause) : Type 0 where
   pub meaningless : (header : Header) → HoldsOf (λ Value Op m. IsNoScriptOf m header bytes) header.service
   pub fault : IsBadHead bytes line cause ⊎ IsBadBehind bytes line cause
-  pub long : (cause ≡ TooLong) ↔ (8388608 < length bytes)
+  pub long : (cause ≡ TooLong) ↔ (most_script_bytes < length bytes)
 
 -- what each end means for the source and the sink: done, refused at a line, a read fault, a write fault, or no memory
 abbrev pub EndMeans : {Out : Type 0} → SourceChange → SinkChange Out → SimEnd → Type 0

@@ -14,7 +14,7 @@ ghost use Rattle.lr_sim.specs.Parts.{EndMeansOf, faults_run, HasMoved, IsFault};
 ghost use Rattle.lr_world.specs.Worlds.{run_of, setup_of};
 
 use lr_base::lr_service::Service;
-use lr_base::{Event, NoMemory, Text};
+use lr_base::{Event, MOST_SCRIPT_BYTES, NoMemory, Text};
 use lr_graph::{a_made_history_goes_on, what_is_made_is_legal};
 use lr_outside::{Failed, ReadEnd, Sink, Source, read_up_to, write_whole};
 use lr_report::{render_header, render_printed_step};
@@ -30,7 +30,7 @@ use svc_mail::Mail;
 use svc_tally::Tally;
 
 // One byte more than a script may have.
-const MOST_INPUT: usize = 8_388_609;
+const MOST_INPUT: usize = MOST_SCRIPT_BYTES + 1;
 
 // How much text is gathered before it is written.
 const PIECE: usize = 8192;
