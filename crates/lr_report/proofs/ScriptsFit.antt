@@ -4,6 +4,7 @@ use Rattle.std.specs.List.{All}
 use Rattle.std.proofs.lemmas.List.{length-append, length-map}
 use Rattle.std.proofs.lemmas.List.Elements.{All-head, All-tail}
 use Rattle.lr_base.specs.ByteLaws.{length-flat_map-le}
+use Rattle.lr_base.specs.Limits.{most_script_bytes-is}
 use Rattle.lr_base.specs.Meaning.{Meaning}
 use Rattle.lr_base.specs.declared.events.Event.{Event}
 use Rattle.lr_base.specs.declared.events.Event.TheVariants.{Call, Deliver, Gossip as GossipEvent, Show}
@@ -45,6 +46,6 @@ module _ {Value Op : Type 0} (m : Meaning Value Op) where
       let short = script.short in
       let count = length-map steps (λ step. step.event) in
       let events_are = ap length same in (
-        omega arith,
+        omega (arith, most_script_bytes-is),
         steps-bring header.config steps (subst (λ (l : List (Event Op)). All (Fits m header.config) l) (sym same) script.fit),
       )
