@@ -156,10 +156,7 @@ fn a_full_output_holds_the_first_bytes(rt: HostRuntime) -> Result<(), Fail> {
     let status = lazyrep_top(alloc, words.as_slice(), &mut input, &mut out, &mut err);
     assert_eq!(rt; status.code, 5);
     assert_eq!(rt; out.bytes(), b"lazyrep 1 tally 1 1 ".as_slice());
-    assert_eq!(rt;
-        err.bytes(),
-        b"lazyrep: write fault\n".as_slice()
-    );
+    assert_eq!(rt; err.bytes(), b"lazyrep: write fault\n".as_slice());
     Ok(())
 }
 
