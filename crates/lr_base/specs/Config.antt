@@ -1,5 +1,5 @@
--- To be believed: what a run is set up with.
-use Rattle.std.specs.Prelude.{◌≤◌}
+-- To be believed: what a run is set up with, and when a time is late.
+use Rattle.std.specs.Prelude.{◌+◌, ◌≤◌, ℕ, Bool, nat_lt}
 use Rattle.lr_base.specs.Limits.{most_clients, most_replicas}
 use Rattle.lr_base.specs.declared.names.Config.{Config}
 
@@ -10,3 +10,8 @@ pub record IsValid (config : Config) : Type 0 where
   pub most_replicas : config.replicas ≤ most_replicas
   pub some_client : 1 ≤ config.clients
   pub most_clients : config.clients ≤ most_clients
+
+-- whether a time lies further back than the clock allows
+-- for example: time 5, delta 10, clock 16; not at clock 15
+abbrev pub is_late : ℕ → ℕ → ℕ → Bool
+is_late time delta clock = nat_lt (time + delta) clock

@@ -3,7 +3,7 @@ use Rattle.std.specs.Prelude.{◌≡◌, ◌<◌, ◌≢◌, true}
 use Rattle.lr_base.specs.Kinds.{has_rules}
 use Rattle.lr_base.specs.Meaning.{Meaning}
 use Rattle.lr_base.specs.declared.events.Event.{Event}
-use Rattle.lr_base.specs.declared.events.Event.TheVariants.{Call, Deliver, Gossip, Show}
+use Rattle.lr_base.specs.declared.events.Event.TheVariants.{Call, Resend, Ack, Deliver, Tick, Gossip, Show}
 use Rattle.lr_base.specs.declared.names.Config.{Config}
 
 -- an event fits a run: it names a client and replicas that there are, gossip names two of them,
@@ -11,7 +11,10 @@ use Rattle.lr_base.specs.declared.names.Config.{Config}
 abbrev pub FitsRun : {Value Op : Type 0} → Meaning Value Op → Config → Event Op → Type 0
 FitsRun m config (Call client replica reading op) =
     (client < config.clients) × (replica < config.replicas) × (has_rules (m.kind op) ≡ true)
+FitsRun m config (Resend client replica reading) = (client < config.clients) × (replica < config.replicas)
+FitsRun m config (Ack client replica reading) = (client < config.clients) × (replica < config.replicas)
 FitsRun m config (Deliver message) = Unit {0}
+FitsRun m config (Tick replica reading) = replica < config.replicas
 FitsRun m config (Gossip from to) = (from < config.replicas) × (to < config.replicas) × (from ≢ to)
 FitsRun m config (Show replica) = replica < config.replicas
 

@@ -1,11 +1,12 @@
 -- The causal rules of a replica, as functions of its state.
 -- What one replica does with causal operations, as functions of its state.
-use Rattle.std.specs.Prelude.{ℕ, ◌+◌, find, filter, get_or, length, set, not, zero, suc, replicate, Bool}
+use Rattle.std.specs.Prelude.{ℕ, ◌+◌, max, find, filter, get_or, length, set, not, zero, suc, replicate, Bool}
 use Rattle.std.specs.Prelude.{◌==◌, nat_lt, if◌then◌else◌, List, [], ◌∷◌, ◌++◌, Option, Some, None, is_some}
 use Rattle.std.specs.Option.{option_map, option_map_or}
 use Rattle.lr_base.specs.Ascending.{is_before, same_cid}
 use Rattle.lr_base.specs.Bytes.{Bytes}
 use Rattle.lr_base.specs.Calls.{enter_call}
+pub use Rattle.lr_base.specs.Config.{is_late}
 use Rattle.lr_base.specs.declared.names.Cid.{Cid}
 use Rattle.lr_base.specs.declared.names.Spot.{Spot}
 use Rattle.lr_base.specs.declared.messages.Call.{Call}
@@ -64,11 +65,6 @@ first_state m replicas parts = record {
 abbrev pub stamp_of : {Op : Type 0} → LogUpdate Op → Stamp
 stamp_of u = set_part u.prev u.spot.place u.spot.number
 
--- whether a time lies further back than the clock allows
--- for example: time 5, delta 10, clock 16; not at clock 15
-abbrev pub is_late : ℕ → ℕ → ℕ → Bool
-is_late time delta clock = nat_lt (time + delta) clock
-
 -- a call was taken before where the table has it, and else where an update of it is logged
 -- for example: executed as `0:1`
 abbrev pub taken_before : {Op : Type 0} → Option Known → Option (LogUpdate Op) → Option Known
@@ -119,6 +115,31 @@ accepted me state call =
       top = u.spot.number;
     }
 
+-- the list with one more acknowledgement, in the order of spots
+abbrev pub insert_ack : LogAck → List LogAck → List LogAck
+insert_ack ack acks = insert_by (λ a b. is_before a.spot b.spot) ack acks
+
+-- the acknowledgement that a replica at this place notes of a call: it takes the next number
+-- for example: at `[2, 0]` that of `0.1` becomes `0:3`
+abbrev pub ack_of : {Value Op : Type 0} → ℕ → CausalState Value Op → Cid → ℕ → LogAck
+ack_of me state cid time = record {
+  spot = record { place = me; number = part state.rep_ts me + 1 };
+  cid = cid;
+  time = time;
+}
+
+-- noting an acknowledgement: it is logged with its time
+-- for example: `rep_ts` from `[2, 0]` to `[3, 0]`
+abbrev pub noted : {Value Op : Type 0} → ℕ → CausalState Value Op → Cid → ℕ → CausalState Value Op
+noted me state cid time =
+    let ack = ack_of me state cid time in
+    record state { rep_ts = set_part state.rep_ts me ack.spot.number; acks = insert_ack ack state.acks }
+
+-- a replica reads its clock, which never goes back
+-- for example: clock 5 and the reading 3 give 5
+abbrev pub ticked : {Value Op : Type 0} → ℕ → CausalState Value Op → CausalState Value Op
+ticked reading state = record state { clock = max state.clock reading }
+
 -- what a replica tells another: how many items it received of each place, and its whole log
 -- for example: `[1, 0, 0]`, and the update at `0:1`
 abbrev pub gossip_of : {Value Op : Type 0} → CausalState Value Op → Gossip Op
@@ -142,10 +163,6 @@ new_acks rep_ts acks = filter (λ a. is_new rep_ts a.spot) acks
 -- for example: `0:1` goes before `1:1`
 abbrev pub insert_updates : {Op : Type 0} → List (LogUpdate Op) → List (LogUpdate Op) → List (LogUpdate Op)
 insert_updates more updates = insert_all_by (λ a b. is_before a.spot b.spot) more updates
-
--- the list with one more acknowledgement, in the order of spots
-abbrev pub insert_ack : LogAck → List LogAck → List LogAck
-insert_ack ack acks = insert_by (λ a b. is_before a.spot b.spot) ack acks
 
 -- the list with these acknowledgements too
 abbrev pub insert_acks : List LogAck → List LogAck → List LogAck

@@ -1,22 +1,25 @@
 -- What a replica does with a message, as a function of its state.
 -- Each step has the message's own part and one end.
 use Rattle.std.specs.Prelude.{ℕ, ◌+◌, ◌==◌, Bool, true, false, not, nat_lt, if◌then◌else◌, List, [], ◌∷◌, ◌++◌}
-use Rattle.std.specs.Prelude.{filter, length}
+use Rattle.std.specs.Prelude.{filter, find, length, max, Option, Some, None}
+use Rattle.lr_base.specs.Ascending.{same_cid}
 use Rattle.lr_base.specs.Limits.{held_room, last_number, log_room}
 use Rattle.lr_base.specs.Meaning.{Meaning}
-use Rattle.lr_base.specs.Rules.{CausalState, accepted, applied, fresh_of, gossip_of, gossip_taken, held_more}
-use Rattle.lr_base.specs.Rules.{new_count, pruned, stamp_of, update_of_call}
+use Rattle.lr_base.specs.Rules.{CausalState, accepted, ack_of, applied, fresh_of, gossip_of, gossip_taken, held_more}
+use Rattle.lr_base.specs.Rules.{new_count, noted, pruned, stamp_of, ticked, update_of_call}
 use Rattle.lr_base.specs.Stamps.{Stamp, part, stamp_le}
-use Rattle.lr_base.specs.declared.events.Outcome.TheVariants.{Accept, Hold, Refuse, Take}
+use Rattle.lr_base.specs.declared.events.Outcome.TheVariants.{Accept, ClockAt, Hold, Note, Refuse, Take}
 use Rattle.lr_base.specs.declared.events.Refusal.{Refusal}
 use Rattle.lr_base.specs.declared.events.Refusal.TheVariants.{Late as IsLate, Again as WasTaken, Settled as IsSettled}
-use Rattle.lr_base.specs.declared.events.Refusal.TheVariants.{FullLog, FullHeld, Worn}
+use Rattle.lr_base.specs.declared.events.Refusal.TheVariants.{FullLog, FullHeld, Noted, Worn}
 use Rattle.lr_base.specs.declared.messages.Call.{Call}
 use Rattle.lr_base.specs.declared.messages.Fresh.{Fresh}
 use Rattle.lr_base.specs.declared.messages.Fresh.TheVariants.{New, Late, Again, Settled}
 use Rattle.lr_base.specs.declared.messages.Gossip.{Gossip}
+use Rattle.lr_base.specs.declared.messages.LogAck.{LogAck}
 use Rattle.lr_base.specs.declared.messages.Message.{Message}
-use Rattle.lr_base.specs.declared.messages.Message.TheVariants.{Update, Query, Done, Answer, Gossip as GossipMessage}
+use Rattle.lr_base.specs.declared.messages.Message.TheVariants.{Update, Query, Ack, Done, Answer}
+use Rattle.lr_base.specs.declared.messages.Message.TheVariants.{Gossip as GossipMessage}
 use Rattle.lr_base.specs.declared.names.Actor.{Actor}
 use Rattle.lr_base.specs.declared.names.Actor.TheVariants.{Client, Replica}
 use Rattle.lr_base.specs.declared.names.Cid.{Cid}
@@ -24,6 +27,8 @@ use Rattle.lr_base.specs.declared.names.Config.{Config}
 use Rattle.lr_base.specs.declared.names.Spot.{Spot}
 use Rattle.lr_base.specs.declared.acts.Act.{Act}
 use Rattle.lr_base.specs.declared.acts.Act.TheVariants.{Say, Send}
+use Rattle.lr_base.specs.declared.acts.NodeEvent.{NodeEvent}
+use Rattle.lr_base.specs.declared.acts.NodeEvent.TheVariants.{Take as TakeMessage, Tick, Gossip as TellGossip}
 
 -- a replica's state after a step, and what it does in it
 -- for example: the same state, and no act
@@ -113,6 +118,16 @@ abbrev pub query_taken : {Value Op : Type 0} → Meaning Value Op → CausalStat
 query_taken m state call true = record { state = state; acts = answer_act m state call ∷ [] }
 query_taken m state call false = query_held state call (nat_lt (length state.held) held_room)
 
+-- an acknowledgement is noted where none of its call is logged, with room and a number
+-- for example: `note 0:2 0.1`; `refuse noted 0:2` when it comes again
+abbrev pub ack_taken : {Value Op : Type 0} → ℕ → CausalState Value Op → Cid → ℕ → Option LogAck → Bool → Bool
+    → Ending Value Op
+ack_taken me state cid time (Some ack) room number = refusing state (Noted ack.spot)
+ack_taken me state cid time None false number = refusing state FullLog
+ack_taken me state cid time None true false = refusing state Worn
+ack_taken me state cid time None true true =
+    record { state = noted me state cid time; acts = Say (Note (ack_of me state cid time).spot cid) ∷ [] }
+
 -- nothing is done
 abbrev pub idle : {Value Op : Type 0} → CausalState Value Op → Ending Value Op
 idle state = record { state = state; acts = [] }
@@ -131,6 +146,9 @@ abbrev pub own_taken : {Value Op : Type 0} → Meaning Value Op → Config → �
 own_taken m config me state (Client client) (Update call time) =
     update_taken me state call (fresh_of config.delta state call.cid time)
 own_taken m config me state (Client client) (Query call) = query_taken m state call (stamp_le call.prev state.val_ts)
+own_taken m config me state (Client client) (Ack cid time) =
+    let logged = find (λ ack. same_cid ack.cid cid) state.acks in
+    ack_taken me state cid time logged (has_room state) (has_number me state)
 own_taken m config me state (Replica from) (GossipMessage gossip) = gossip_given from state gossip (from == me)
 own_taken m config me state _ _ = idle state
 
@@ -146,3 +164,17 @@ taken m config me state from message =
 -- for example: `send 4 r0 r1 gossip`
 abbrev pub gossiped : {Value Op : Type 0} → Meaning Value Op → ℕ → ℕ → CausalState Value Op → Ending Value Op
 gossiped m replicas to state = ended m replicas state (Send (Replica to) (GossipMessage (gossip_of state)) ∷ [])
+
+-- a replica reads its clock, to the end of the step
+-- for example: `clock 5`
+abbrev pub clock_set : {Value Op : Type 0} → Meaning Value Op → ℕ → ℕ → CausalState Value Op → Ending Value Op
+clock_set m replicas reading state =
+    ended m replicas (ticked reading state) (Say (ClockAt (max state.clock reading)) ∷ [])
+
+-- what a replica of this number does with what comes to it, to the end of the step
+-- for example: `taken` of a message
+abbrev pub did : {Value Op : Type 0} → Meaning Value Op → Config → ℕ → CausalState Value Op → NodeEvent Op
+    → Ending Value Op
+did m config me state (TakeMessage from message) = taken m config me state from message
+did m config me state (Tick reading) = clock_set m config.replicas reading state
+did m config me state (TellGossip to) = gossiped m config.replicas to state

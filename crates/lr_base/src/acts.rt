@@ -19,3 +19,14 @@ pub struct Posted<O: Drop> {
     pub to: Actor,
     pub message: Message<O>,
 }
+
+/// What comes to a replica.
+#[derive(Drop)]
+pub enum NodeEvent<O: Drop> {
+    /// It takes a message.
+    Take { from: Actor, message: Message<O> },
+    /// It reads its clock.
+    Tick { reading: u64 },
+    /// It sends gossip to another replica.
+    Gossip { to: u8 },
+}

@@ -13,9 +13,26 @@ pub enum Event<O> {
         reading: u64,
         op: O,
     },
+    /// A front end sends its open call again, through a replica, at a clock reading.
+    Resend {
+        client: u32,
+        replica: u8,
+        reading: u64,
+    },
+    /// A front end acknowledges its last answered update to a replica, at a clock reading.
+    Ack {
+        client: u32,
+        replica: u8,
+        reading: u64,
+    },
     /// A message is delivered to its receiver. Messages are numbered from 1 in the order of their sends.
     Deliver {
         message: u64,
+    },
+    /// A replica reads its clock.
+    Tick {
+        replica: u8,
+        reading: u64,
     },
     /// A replica sends gossip to another.
     Gossip {
@@ -33,6 +50,7 @@ pub enum Event<O> {
 pub enum Sent {
     Update { cid: Cid, time: u64 },
     Query { cid: Cid },
+    Ack { cid: Cid, time: u64 },
     Done { cid: Cid, spot: Spot },
     Answer { cid: Cid, text: Text },
     Gossip,
@@ -47,12 +65,18 @@ pub enum Refusal {
     Again { spot: Spot },
     /// The client has said that it has the reply.
     Settled,
+    /// An acknowledgement of the call is logged, at this spot.
+    Noted { spot: Spot },
     FullLog,
     FullHeld,
     /// A count has reached its greatest number.
     Worn,
     /// The front end has this call open.
     Unfinished { cid: Cid },
+    /// The front end has no call open.
+    Idle,
+    /// No update of the client was answered yet.
+    Nothing,
 }
 
 /// A replica's state, as it is printed.
@@ -82,6 +106,11 @@ pub enum Outcome {
         spot: Spot,
         cid: Cid,
     },
+    /// An acknowledgement was logged, at this spot.
+    Note {
+        spot: Spot,
+        cid: Cid,
+    },
     Hold {
         cid: Cid,
     },
@@ -96,6 +125,10 @@ pub enum Outcome {
     /// A reply to another call came.
     Stale {
         cid: Cid,
+    },
+    /// So far a replica's clock has come.
+    ClockAt {
+        reading: u64,
     },
     /// No message of this number was sent.
     NoMessage {

@@ -16,7 +16,7 @@ mod places;
 mod rows;
 mod stamp;
 
-pub use acts::{Act, Posted};
+pub use acts::{Act, NodeEvent, Posted};
 pub use bytes::{
     BadWhat, FieldFault, GetFault, byte_field, count_field, decoded, fault_at, number_field,
     put_byte_field, put_count_field, put_number_field, put_short_field, short_field,

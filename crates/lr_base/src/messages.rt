@@ -162,6 +162,8 @@ pub enum Message<O> {
     Update { call: Call<O>, time: u64 },
     /// A client's query.
     Query { call: Call<O> },
+    /// A client's word that it has the reply to its update; `time` is the front end's clock.
+    Ack { cid: Cid, time: u64 },
     /// The reply to an update: where it was accepted, and what to see to see it.
     Done { cid: Cid, spot: Spot, stamp: Stamp },
     /// The reply to a query: the service's answer, and what it was read after.
