@@ -1,6 +1,7 @@
 -- What is known by tables that calls were taken out of, and in which order the calls may leave.
 use Rattle.std.specs.Prelude.{◌≡◌, ◌++◌, List, [], ◌∷◌, Bool, true, false, not, cond, None}
 use Rattle.std.proofs.Common.{refl, sym, ap, ◌∙◌, ◌||◌, ◌&&◌, true≢false}
+use Rattle.std.proofs.Math.Bool.{and_comm}
 use Rattle.lr_base.specs.Ascending.{same_cid}
 use Rattle.lr_base.specs.InsertionLaws.{filter-both}
 use Rattle.lr_base.specs.NameLaws.{same_cid-is}
@@ -43,28 +44,27 @@ named-append (c ∷ a) b cid = go (same_cid cid c) (named-append a b cid)
     go true rest = refl
     go false rest = rest
 
--- calls of two lists leave at once or one list after the other, in either order
-pub without-append : (a b : List Cid) (calls : List (Cid × Known))
-    → without (a ++ b) calls ≡ without a (without b calls)
-without-append a b calls =
-    sym (filter-both (λ e. not (is_named a e.0)) (λ e. not (is_named b e.0)) (λ e. not (is_named (a ++ b) e.0))
-    (λ e. ap not (named-append a b e.0) ∙ go (is_named a e.0) (is_named b e.0)) calls)
-  where
-    go : (s t : Bool) → not (s || t) ≡ (not t && not s)
-    go true true = refl
-    go true false = refl
-    go false true = refl
-    go false false = refl
-
-pub without-behind : (a b : List Cid) (calls : List (Cid × Known))
-    → without (a ++ b) calls ≡ without b (without a calls)
-without-behind a b calls =
-    sym (filter-both (λ e. not (is_named b e.0)) (λ e. not (is_named a e.0)) (λ e. not (is_named (a ++ b) e.0))
-    (λ e. ap not (named-append a b e.0) ∙ go (is_named a e.0) (is_named b e.0)) calls)
+-- a call is outside two lists where it is outside each
+outside-append : (a b : List Cid) (cid : Cid)
+    → not (is_named (a ++ b) cid) ≡ (not (is_named a cid) && not (is_named b cid))
+outside-append a b cid = ap not (named-append a b cid) ∙ go (is_named a cid) (is_named b cid)
   where
     go : (s t : Bool) → not (s || t) ≡ (not s && not t)
     go true t = refl
     go false t = refl
+
+-- calls of two lists leave at once or one list after the other, in either order
+pub without-behind : (a b : List Cid) (calls : List (Cid × Known))
+    → without (a ++ b) calls ≡ without b (without a calls)
+without-behind a b calls =
+    sym (filter-both (λ e. not (is_named b e.0)) (λ e. not (is_named a e.0)) (λ e. not (is_named (a ++ b) e.0))
+    (λ e. outside-append a b e.0) calls)
+
+pub without-append : (a b : List Cid) (calls : List (Cid × Known))
+    → without (a ++ b) calls ≡ without a (without b calls)
+without-append a b calls =
+    sym (filter-both (λ e. not (is_named a e.0)) (λ e. not (is_named b e.0)) (λ e. not (is_named (a ++ b) e.0))
+    (λ e. outside-append a b e.0 ∙ and_comm (not (is_named a e.0)) (not (is_named b e.0))) calls)
 
 -- where no call leaves, the table stays
 pub without-none : (calls : List (Cid × Known)) → without [] calls ≡ calls
