@@ -11,7 +11,7 @@ use Rattle.lr_base.specs.declared.messages.Known.{Known}
 use Rattle.lr_base.specs.declared.messages.LogAck.{LogAck}
 use Rattle.lr_base.specs.declared.messages.LogUpdate.{LogUpdate}
 use Rattle.lr_base.specs.declared.names.Cid.{Cid}
-use Rattle.lr_base.specs.Rules.{CausalState, gossip_taken, is_new, new_acks, new_updates, insert_acks, insert_update}
+use Rattle.lr_base.specs.Rules.{CausalState, gossip_taken, is_new, new_acks, new_updates, insert_ack, insert_acks, insert_update}
 use Rattle.lr_base.specs.Stamps.{join, part, set_part}
 use Rattle.lr_base.specs.StampLaws.{join-least, length-join, length-set_part, parts-stamp_le, stamp_le-refl, stamp_le-trans}
 use Rattle.lr_value.specs.Applied.{Applied, Lagging}
@@ -47,7 +47,7 @@ module _ {Value Op : Type 0} where
       → rep_ts ≡ state.rep_ts → row ≡ get_or state.table heard [] → entered ≡ [] → held ≡ length state.held
       → heard < length state.table → length (get_or state.table heard []) ≡ length state.rep_ts
       → AllReceived state.rep_ts state.updates → AllAcksReceived state.rep_ts state.acks
-      → IsPointOf (record { rep_ts = rep_ts; top = state.top; heard = heard; row = row; entered = entered; held = held; applied = None }) state state
+      → IsPointOf (record { clock = state.clock; rep_ts = rep_ts; top = state.top; heard = heard; row = row; entered = entered; held = held; applied = None }) state state
   point-saved rep_ts row heard held entered state stamps own none waiting within parts received acks_received =
       let updates = filter-none (λ (u : LogUpdate Op). is_new state.rep_ts u.spot) state.updates received in
       let acks = filter-none (λ (a : LogAck). is_new state.rep_ts a.spot) state.acks acks_received in
@@ -78,6 +78,36 @@ module _ {Value Op : Type 0} where
         lags = point.lags;
         shape = shape-along p state _ (length-set_part state.rep_ts u.spot.place u.spot.number within) refl point.shape;
       }
+
+  -- the next acknowledgement of a place is logged
+  pub point-noted : (p : Saved Value) (a : LogAck) (state before : CausalState Value Op) (rep_ts : List ℕ) (log : Items Op) → a.spot.place < length state.rep_ts → a.spot.number ≡ part state.rep_ts a.spot.place + 1 → rep_ts ≡ set_part state.rep_ts a.spot.place a.spot.number → log ≡ items_of state.updates (insert_ack a state.acks) → IsPointOf p state before → IsPointOf p (record state { rep_ts = rep_ts; updates = log.updates; acks = log.acks }) before
+  point-noted p a state before rep_ts log within next at is point =
+      let most = parts-stamp_le p.rep_ts state.rep_ts point.received a.spot.place in
+      let new : is_new p.rep_ts a.spot ≡ true = lt-ltb (part p.rep_ts a.spot.place) a.spot.number (omega arith) in
+      rw (at, is) record {
+        restores =
+            ap (λ (acks : List LogAck). record (restored p state) { acks = acks }) (filter-insert (λ (x : LogAck). is_new p.rep_ts x.spot) (λ (x y : LogAck). is_before x.spot y.spot) a state.acks new)
+            ∙ point.restores;
+        received = stamp_le-trans p.rep_ts state.rep_ts (set_part state.rep_ts a.spot.place a.spot.number) point.received (set_part-above state.rep_ts a.spot.place a.spot.number (omega arith));
+        held_most = point.held_most;
+        lags = point.lags;
+        shape = shape-along p state _ (length-set_part state.rep_ts a.spot.place a.spot.number within) refl point.shape;
+      }
+
+  -- the clock is read
+  pub point-ticked : (p : Saved Value) (state before : CausalState Value Op) (clock : ℕ) → IsPointOf p state before → IsPointOf p (record state { clock = clock }) before
+  point-ticked p state before clock point = record {
+    restores = point.restores;
+    received = point.received;
+    held_most = point.held_most;
+    lags = point.lags;
+    shape = record {
+      rep_parts = point.shape.rep_parts;
+      within = point.shape.within;
+      row_parts = point.shape.row_parts;
+      val_parts = point.shape.val_parts;
+    };
+  }
 
   -- gossip is taken of the replica whose row is kept
   pub point-taken : (p : Saved Value) (from : ℕ) (state before : CausalState Value Op) (gossip : Gossip Op) → p.heard ≡ from

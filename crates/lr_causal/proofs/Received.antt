@@ -5,7 +5,7 @@ use Rattle.lr_base.specs.Ascending.{is_before}
 use Rattle.lr_base.specs.declared.messages.LogAck.{LogAck}
 use Rattle.lr_base.specs.declared.messages.LogUpdate.{LogUpdate}
 use Rattle.lr_base.specs.declared.names.Spot.{Spot}
-use Rattle.lr_base.specs.Rules.{is_new, new_acks, new_updates, insert_acks, insert_update, insert_updates}
+use Rattle.lr_base.specs.Rules.{insert_ack, is_new, new_acks, new_updates, insert_acks, insert_update, insert_updates}
 use Rattle.lr_base.specs.Stamps.{join, part, set_part, stamp_le}
 use Rattle.lr_base.specs.StampLaws.{join-least, part-set_part, parts-stamp_le, stamp_le-refl}
 use Rattle.lr_base.specs.Logged.{AllAcksReceived, AllReceived}
@@ -81,6 +81,15 @@ AllAcksReceived-along rep_ts stamp acks same at is all = rw (at, is) all
 
 pub AllAcksReceived-next : (rep_ts stamp : List ℕ) (place n : ℕ) (acks same : List LogAck) → stamp ≡ set_part rep_ts place n → part rep_ts place ≤ n → same ≡ acks → AllAcksReceived rep_ts acks → AllAcksReceived stamp same
 AllAcksReceived-next rep_ts stamp place n acks same at more is all = rw at (AllAcksReceived-later rep_ts (set_part rep_ts place n) acks same (set_part-above rep_ts place n more) is all)
+
+-- a log that gained the next acknowledgement of a place
+pub AllAcksReceived-noted : (rep_ts stamp : List ℕ) (a : LogAck) (acks same : List LogAck) → stamp ≡ set_part rep_ts a.spot.place a.spot.number → part rep_ts a.spot.place ≤ a.spot.number → same ≡ insert_ack a acks → AllAcksReceived rep_ts acks → AllAcksReceived stamp same
+AllAcksReceived-noted rep_ts stamp a acks same at more is all =
+    let own : is_new (set_part rep_ts a.spot.place a.spot.number) a.spot ≡ false =
+    le-ltb (part (set_part rep_ts a.spot.place a.spot.number) a.spot.place) a.spot.number (let written = part-set_part rep_ts a.spot.place a.spot.number in omega arith) in
+    rw (at, is)
+    (Each-insert (λ (x : LogAck). is_new (set_part rep_ts a.spot.place a.spot.number) x.spot ≡ false) (λ (x y : LogAck). is_before x.spot y.spot) a acks own
+    (AllAcksReceived-later rep_ts (set_part rep_ts a.spot.place a.spot.number) acks acks (set_part-above rep_ts a.spot.place a.spot.number more) refl all))
 
 pub AllAcksReceived-gained : (rep_ts told_ts stamp : List ℕ) (told new own acks : List LogAck) → stamp ≡ join rep_ts told_ts → new ≡ new_acks rep_ts told → acks ≡ insert_acks new own → AllAcksReceived told_ts told → AllAcksReceived rep_ts own → AllAcksReceived stamp acks
 AllAcksReceived-gained rep_ts told_ts stamp told new own acks at is gained all all_own =

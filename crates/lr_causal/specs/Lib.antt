@@ -2,3 +2,4 @@ pub mod Causal
 pub mod GossipLaws
 pub mod Savepoint
 pub mod State
+pub mod Acks

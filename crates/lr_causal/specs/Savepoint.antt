@@ -12,10 +12,11 @@ use Rattle.lr_base.specs.declared.names.Cid.{Cid}
 use Rattle.lr_calls.specs.Tables.{without}
 use Rattle.lr_value.specs.Applied.{Applied, Lagging}
 
--- what a savepoint remembers of a state: the stamps and the one row that a step may overwrite, which calls were entered
--- since, how many queries were held, and the value where it was changed
--- for example: `[1, 0]`, the number 1, row 0 with its stamp, no call, no query, no value
+-- what a savepoint remembers of a state: the clock, the stamps and the one row that a step may overwrite, which calls
+-- were entered since, how many queries were held, and the value where it was changed
+-- for example: clock 5, `[1, 0]`, the number 1, row 0 with its stamp, no call, no query, no value
 pub record Saved (Value : Type 0) : Type 0 where
+  pub clock : ℕ
   pub rep_ts : List ℕ
   pub top : ℕ
   pub heard : ℕ
@@ -41,6 +42,7 @@ abbrev pub restored : {Value Op : Type 0} → Saved Value → CausalState Value 
 restored p state =
     let before = put_back_in p.applied (record { value = state.value; val_ts = state.val_ts; memory = None }) in
     record state {
+      clock = p.clock;
       rep_ts = p.rep_ts;
       val_ts = before.val_ts;
       value = before.value;

@@ -5,17 +5,20 @@ ghost use Rattle.lr_base.specs.Logged.{AllAcksReceived, AllKnown, AllLogged, All
 ghost use Rattle.lr_causal.specs.Causal.{AllStamps, HasSeen, NoneApplied};
 ghost use Rattle.lr_value.specs.Remembered.{Remembers};
 
-use crate::applying::apply_ready;
 use crate::gossip::{new_acks, new_updates};
-use crate::heard::{copy_table, first_table, join_row, put_row, row_of};
+use crate::heard::{copy_table, first_table, join_row};
 use crate::labels::{is_applied, none_applied};
-use crate::savepoint::{Savepoint, put_back};
 use lr_base::lr_service::{Operation, Service};
 use lr_base::{Call, Cid, Config, Fresh, Gossip, Known, LogUpdate, NoMemory, Spot, Stamp, Text};
 use lr_calls::{CallTable, late};
 use lr_log::Log;
 use lr_value::Value;
 use std::alloc::Global;
+
+mod noting;
+mod stepping;
+
+pub use noting::AckEnd;
 
 /// The state of a replica that causal operations use.
 #[derive(Drop)]
@@ -56,12 +59,12 @@ pub struct Causal<S: Service> {
 impl<S: Service> Causal<S> {
     ghost use Rattle.std.specs.Prelude.{◌≡◌, ◌+◌, ◌<◌, ◌↔◌, ℕ, find, length, IfSome, IfOk, IsTrue, OnOk, OnErr};
     ghost use Rattle.lr_causal.specs.Causal.{AgainHasParts, IsAnswerOf, IsGossip, IsUpdateCall, NoneApplied};
-    ghost use Rattle.lr_causal.specs.Savepoint.{CanUndo, HasShapeOf, IsPointOf, IsSame};
+    ghost use Rattle.lr_causal.specs.Savepoint.{CanUndo, IsSame};
     ghost use Rattle.lr_base.specs.Ascending.{same_cid};
     ghost use Rattle.lr_base.specs.Config.{IsValid};
     ghost use Rattle.lr_base.specs.Kinds.{IsQuery, IsUpdate};
-    ghost use Rattle.lr_base.specs.Rules.{CausalState, accepted, answer_of, applied, first_state, fresh_of, gossip_of};
-    ghost use Rattle.lr_base.specs.Rules.{gossip_taken, held_more, known_of, new_count, pruned, taken_before};
+    ghost use Rattle.lr_base.specs.Rules.{accepted, answer_of, first_state, fresh_of, gossip_of};
+    ghost use Rattle.lr_base.specs.Rules.{gossip_taken, held_more, known_of, new_count, taken_before};
     ghost use Rattle.lr_base.specs.Rules.{update_of_call};
     ghost use Rattle.lr_base.specs.Limits.{last_number};
     ghost use Rattle.lr_base.specs.Stamps.{part};
@@ -334,106 +337,6 @@ impl<S: Service> Causal<S> {
         self.rep_ts.join(&gossip.rep_ts);
         join_row(&mut self.table, from, &gossip.rep_ts);
         Ok(updates.len() as u64 + acks.len() as u64)
-    }
-
-    /// Applies all that is ready, and drops what is known everywhere.
-    pub fn settle(&mut self) -> Result<(), NoMemory>
-        ensures ok { let ready = applied S.meaning (state_of self.old) in
-            OnOk result (state_of self.new ≡ pruned (config_of self.old).replicas ready) }
-        ensures err { OnErr result (state_of self.new ≡ state_of self.old) }
-        ensures same { IsSame (replica_of self.old) (replica_of self.new) }
-    {
-        let mut point = self.save(self.me);
-        self.apply(&mut point)?;
-        self.close(point);
-        self.prune();
-        Ok(())
-    }
-
-    /// What is needed to undo what comes next: a stamp, a length, no value, no item, no call, and of what replicas were
-    /// heard to have received the one row of `heard`. It takes no memory.
-    pub fn save(&self, heard: u8) -> Savepoint<S>
-        requires { heard < (config_of self.now).replicas }
-        ensures point { IsPointOf result (state_of self.now) (state_of self.now) }
-        ensures heard { result.heard ≡ heard }
-    {
-        Savepoint {
-            rep_ts: self.rep_ts.copy(),
-            top: self.top,
-            heard,
-            row: row_of(self.table.as_slice(), heard),
-            entered: Vec::new(self.log.allocator()),
-            held: self.held.len(),
-            applied: None,
-        }
-    }
-
-    /// Applies all that is ready. Where something is, the value of before goes into the savepoint, unless it has one
-    /// already. Where nothing was received since the last time, it looks at no update.
-    pub fn apply(&mut self, point: &mut Savepoint<S>) -> Result<(), NoMemory>
-        ensures ok { OnOk result (state_of self.new ≡ applied S.meaning (state_of self.old)) }
-        // what stays, and can be undone
-        ensures err { OnErr result (state_of self.new ≡ state_of self.old) }
-        ensures err_point { OnErr result (point.new ≡ point.old) }
-        ensures point { (before : CausalState S S.Op) → IsPointOf point.old (state_of self.old) before
-            → IsPointOf point.new (state_of self.new) before }
-        ensures same { IsSame (replica_of self.old) (replica_of self.new) }
-    {
-        let Ok(older) = apply_ready(
-            &mut self.value,
-            &self.log,
-            &self.rep_ts,
-            &mut self.calls,
-            &mut point.entered,
-        ) else {
-            return Err(NoMemory);
-        };
-        if let Some(older) = older {
-            self.all_wait = false;
-            point.keep(older);
-        }
-        Ok(())
-    }
-
-    /// Ends what the savepoint might have undone: where it has the value of before, that is kept, to be caught up when
-    /// something is applied next. It takes no memory.
-    pub fn close(&mut self, point: Savepoint<S>)
-        requires { (before : CausalState S S.Op) × IsPointOf point (state_of self.old) before }
-        ensures state { state_of self.new ≡ state_of self.old }
-        ensures same { IsSame (replica_of self.old) (replica_of self.new) }
-    {
-        let Savepoint { applied, .. } = point;
-        if let Some(older) = applied {
-            self.value.keep(older);
-        }
-    }
-
-    /// Drops what is known everywhere. It takes no memory, and no savepoint undoes it.
-    pub fn prune(&mut self)
-        ensures state { state_of self.new ≡ pruned (config_of self.old).replicas (state_of self.old) }
-        ensures same { IsSame (replica_of self.old) (replica_of self.new) }
-    {
-        if self.config.replicas == 1 {
-            self.log.clear_updates();
-        }
-    }
-
-    /// Gives back the state in which the savepoint was made, where only `accept`, `take_gossip` of the replica whose
-    /// row it has, `hold` and `apply` have changed it since. It takes no memory.
-    pub fn restore(&mut self, point: Savepoint<S>)
-        requires { HasShapeOf point (state_of self.old) }
-        ensures state { (before : CausalState S S.Op) → IsPointOf point (state_of self.old) before
-            → state_of self.new ≡ before }
-        ensures same { IsSame (replica_of self.old) (replica_of self.new) }
-    {
-        self.log.drop_new(&point.rep_ts);
-        self.calls.leave(point.entered.as_slice());
-        self.held.truncate(point.held);
-        put_back(&mut self.value, point.applied);
-        self.rep_ts = point.rep_ts;
-        self.top = point.top;
-        self.all_wait = false;
-        put_row(&mut self.table, point.heard, point.row);
     }
 
     /// What a query with this label is answered, or nothing while something of its label isn't applied.

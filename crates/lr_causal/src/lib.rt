@@ -9,5 +9,5 @@ mod heard;
 mod labels;
 mod savepoint;
 
-pub use causal::Causal;
+pub use causal::{AckEnd, Causal};
 pub use savepoint::Savepoint;

@@ -5,9 +5,9 @@ use crate::faults::Fault;
 use crate::printed::{
     put_acks, put_executed, put_fresh, put_heard, put_held, put_stamps, put_updates,
 };
-use crate::steps::{accept, hear, hear_acks, hold, read};
+use crate::steps::{accept, hear, hear_acks, hold, note, read, tick};
 use crate::texts::{cid, cut, number_of, small_number_of};
-use crate::undone::{accept_undone, hear_undone};
+use crate::undone::{accept_undone, hear_undone, note_undone};
 use lr_base::Config;
 use lr_calls::late;
 use lr_causal::Causal;
@@ -126,6 +126,8 @@ fn answer_one(
     match verb {
         "accept" => answer_accepted(alloc, replica, words, out),
         "hold" => hold(alloc, replica, words),
+        "note" => answer_noted(replica, words, out),
+        "tick" => tick(replica, words, out),
         "hear_acks" => hear_acks(alloc, replica, words, out),
         "settle" => Ok(replica.settle()?),
         "drop_answered" => Ok(replica.drop_answered()),
@@ -148,6 +150,18 @@ fn answer_accepted(
         return Err(Fault::Unread);
     };
     accept_undone(alloc, replica, update, query, asked, out)
+}
+
+// An acknowledgement: noted; or, with a time behind a stroke, noted, the clock read, and undone.
+fn answer_noted(
+    replica: &mut Causal<Tally>,
+    words: &[&str],
+    out: &mut String,
+) -> Result<(), Fault> {
+    match cut(words) {
+        Some((noted, ticked)) => note_undone(replica, noted, ticked, out),
+        None => note(replica, words, out),
+    }
 }
 
 // What only asks one replica.

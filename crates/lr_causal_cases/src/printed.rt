@@ -1,7 +1,7 @@
 //! How answers and states are printed.
 use crate::faults::Fault;
 use lr_base::{Cid, Fresh, Spot, Stamp, Text};
-use lr_causal::Causal;
+use lr_causal::{AckEnd, Causal};
 use std::alloc::{AllocError, Global};
 use std::str;
 use svc_tally::Tally;
@@ -65,6 +65,19 @@ pub fn put_fresh(fresh: &Fresh, out: &mut String) -> Result<(), AllocError> {
             put_accepted(*spot, stamp, out)
         }
         Fresh::Settled => out.push_str("settled"),
+    }
+}
+
+/// Adds what became of an acknowledgement behind `out`.
+pub fn put_noted(end: AckEnd, out: &mut String) -> Result<(), AllocError> {
+    match end {
+        AckEnd::Noted(spot) => put_spot(spot, out),
+        AckEnd::Again(spot) => {
+            out.push_str("noted ")?;
+            put_spot(spot, out)
+        }
+        AckEnd::FullLog => out.push_str("no room"),
+        AckEnd::Worn => out.push_str("no number"),
     }
 }
 

@@ -5,7 +5,7 @@ ghost use Rattle.lr_causal.specs.Savepoint.{CanUndo};
 ghost use Rattle.lr_causal.specs.State.{me_of, replica_of};
 
 use crate::faults::Fault;
-use crate::printed::{put_accepted, put_answer, put_count};
+use crate::printed::{put_accepted, put_answer, put_count, put_noted};
 use crate::texts::{call_of, cid, number_of, op_of, small_number_of, stamp_of};
 use lr_base::lr_service::{Kind, Operation, Service};
 use lr_base::{Gossip, LogAck, Rows, Spot, Stamp};
@@ -42,6 +42,28 @@ pub fn hold(alloc: Global, replica: &mut Causal<Tally>, words: &[&str]) -> Resul
 {
     let call = call_of(alloc, replica.rep_ts().parts(), words)?;
     Ok(replica.hold(&call)?)
+}
+
+/// Takes an acknowledgement of the client: the number of its call, and a time.
+pub fn note(replica: &mut Causal<Tally>, words: &[&str], out: &mut String) -> Result<(), Fault>
+    ensures { (row : ℕ) → CanUndo row (replica_of replica.old) (replica_of replica.new) }
+{
+    let [seq, time] = words else {
+        return Err(Fault::Unread);
+    };
+    let end = replica.ack(cid(number_of(seq)?), number_of(time)?)?;
+    Ok(put_noted(end, out)?)
+}
+
+/// Reads the clock at a time.
+pub fn tick(replica: &mut Causal<Tally>, words: &[&str], out: &mut String) -> Result<(), Fault>
+    ensures { (row : ℕ) → CanUndo row (replica_of replica.old) (replica_of replica.new) }
+{
+    let [reading] = words else {
+        return Err(Fault::Unread);
+    };
+    let clock = replica.tick(number_of(reading)?);
+    Ok(write!(out, "clock {clock}")?)
 }
 
 /// Reads a query's answer, if there is one: its label, and the operation.

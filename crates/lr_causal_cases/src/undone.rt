@@ -1,6 +1,6 @@
 //! Steps that are undone.
 use crate::faults::Fault;
-use crate::steps::{accept, hear, hold, read};
+use crate::steps::{accept, hear, hold, note, read, tick};
 use lr_causal::Causal;
 use std::alloc::Global;
 use svc_tally::Tally;
@@ -38,6 +38,21 @@ pub fn hear_undone(
     hear(replica, from, out)?;
     replica.apply(&mut point)?;
     read(alloc, replica, asked, out)?;
+    replica.restore(point);
+    Ok(())
+}
+
+/// Takes an acknowledgement, reads the clock, and undoes what it did.
+pub fn note_undone(
+    replica: &mut Causal<Tally>,
+    noted: &[&str],
+    ticked: &[&str],
+    out: &mut String,
+) -> Result<(), Fault> {
+    let point = replica.save(replica.me());
+    note(replica, noted, out)?;
+    out.push_str(", ")?;
+    tick(replica, ticked, out)?;
     replica.restore(point);
     Ok(())
 }

@@ -1,4 +1,4 @@
-use Rattle.std.proofs.Common.{◌≡◌, ◌<◌, ◌++◌, ◌∙◌, [], ◌∷◌, None, Some, refl, subst, sym, arith}
+use Rattle.std.proofs.Common.{◌≡◌, ◌<◌, ◌++◌, ◌∙◌, [], ◌∷◌, refl, subst, sym, arith}
 use Rattle.lr_base.specs.Logged.{AllAcksReceived}
 use Rattle.lr_base.specs.Places.{AreInOrder}
 use Rattle.lr_base.specs.declared.messages.LogAck.{LogAck}
