@@ -2,3 +2,5 @@
 pub mod Orders
 pub mod Tallying
 pub mod LeastLogged
+pub mod Acks
+pub mod Items

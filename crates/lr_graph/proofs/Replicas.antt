@@ -6,5 +6,6 @@ pub mod Ending
 pub mod Stepping
 pub mod Own
 pub mod Receiving
+pub mod Noting
 pub mod GossipSteps
 pub mod OwnParts

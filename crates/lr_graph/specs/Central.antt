@@ -1,7 +1,8 @@
 -- What stamps stand for in a run: the sets of acceptances that they name. The contract of `stamps_stand_for_sets`
 -- says that `IsCentral` holds after every history that is made. In the examples `0:1` was accepted, and then `1:1`
 -- with the cause `0:1`.
-use Rattle.std.specs.Prelude.{◌≡◌, ◌<◌, ℕ, find, length, ◌&&◌, ◌==◌, max, if◌then◌else◌, List, [], ◌∷◌, Some, is_some}
+use Rattle.std.specs.Prelude.{◌≡◌, ◌<◌, ℕ, find, length, ◌&&◌, ◌==◌, max, if◌then◌else◌, List, [], ◌∷◌}
+use Rattle.std.specs.Prelude.{Option, Some, None, is_some}
 use Rattle.std.specs.List.{slice_get}
 use Rattle.std.specs.Option.{option_map}
 use Rattle.lr_base.specs.Calls.{AreByCall}
@@ -17,15 +18,16 @@ use Rattle.lr_base.specs.declared.messages.Gossip.{Gossip as GossipRecord}
 use Rattle.lr_base.specs.declared.messages.Known.{Known}
 use Rattle.lr_base.specs.declared.messages.LogUpdate.{LogUpdate}
 use Rattle.lr_base.specs.declared.messages.Message.{Message}
-use Rattle.lr_base.specs.declared.messages.Message.TheVariants.{Update, Query, Done, Answer, Gossip}
+use Rattle.lr_base.specs.declared.messages.Message.TheVariants.{Update, Query, Ack, Done, Answer, Gossip}
 use Rattle.lr_base.specs.declared.names.Cid.{Cid}
 use Rattle.lr_base.specs.declared.names.Config.{Config}
 use Rattle.lr_base.specs.declared.events.Step.{Step}
 use Rattle.lr_graph.specs.After.{after}
 use Rattle.lr_graph.specs.Closed.{Each, IsSetOf, IsSound, causes, IsDoneAt}
 use Rattle.lr_graph.specs.Graph.{Acceptance, Carried, Facts, LabelledCall, SentMessage, has_call, kept_spot}
-use Rattle.lr_graph.specs.Graph.{is_within, ready}
-use Rattle.lr_graph.specs.Graph.{UpdateCopy, QueryCopy, DoneReply, AnswerReply, GossipOf}
+use Rattle.lr_graph.specs.Graph.{acks_of, is_within, ready}
+use Rattle.lr_graph.specs.Graph.{UpdateCopy, QueryCopy, AckCopy, DoneReply, AnswerReply, GossipOf}
+use Rattle.lr_graph.specs.Legal.{acked}
 use Rattle.lr_graph.specs.Names.{IsCounted}
 use Rattle.lr_graph.specs.Runs.{RunState, message_at}
 use Rattle.lr_graph.specs.Sets.{SpotSet}
@@ -86,17 +88,20 @@ pub record IsCallIn {Value Op : Type 0} (config : Config) (w : Facts Op) (v : Ru
   pub op : d.op ≡ of.op
   pub label : StandsForSet config w v d.prev of.label
 
--- gossip counts what its sender received, and its log has updates of acceptances
+-- gossip counts what its sender received, its log has updates of acceptances, and it has the acknowledgements that the
+-- sender had received
 pub record IsGossipIn {Value Op : Type 0} (config : Config) (w : Facts Op) (v : RunState Value Op)
     (names : SpotSet) (gossip : GossipRecord Op) : Type 0 where
   pub counted : IsCounted names gossip.rep_ts
   pub updates : Each (IsUpdateIn config w v) gossip.updates
+  pub acks : gossip.acks ≡ acks_of (λ a. names a.spot) w.acks
 
 -- what a message of the run has is what this one of the facts carries: of the same call, with a stamp for its set
 -- for example: the label of a copy of `0.2`
 abbrev pub CarriesStamp : {Value Op : Type 0} → Config → Facts Op → RunState Value Op → Carried Op → Message Op → Type 0
 CarriesStamp config w v (UpdateCopy c t) (Update d time) = IsCallIn config w v c d × (time ≡ t)
 CarriesStamp config w v (QueryCopy c) (Query d) = IsCallIn config w v c d
+CarriesStamp config w v (AckCopy cid t) (Ack other time) = (other ≡ cid) × (time ≡ t)
 CarriesStamp config w v (DoneReply cid names) (Done other spot stamp) =
     (other ≡ cid) × IsDoneAt w.accepted cid spot names × StandsForSet config w v stamp names
 CarriesStamp config w v (AnswerReply cid names) (Answer other text stamp) =
@@ -128,14 +133,17 @@ pub record IsKnownIn {Value Op : Type 0} (config : Config) (w : Facts Op) (v : R
   pub spot : known.spot ≡ of.spot
   pub stamp : StandsForSet config w v known.stamp of.below
 
--- what a replica received of each place is a prefix of its numbers, its stamps stand for sets, and its table has just
--- the calls of what is ready, each once, at the spots that the facts keep of them
+-- what a replica received of each place is a prefix of its numbers, its clock is that of the facts, its stamps stand
+-- for sets, it logs the acknowledgements that it received, and its table has just the calls of what is ready, each
+-- once, at the spots that the facts keep of them
 -- for example: at `r1` `[0, 1, 0]` counts `1:1`, and nothing is ready
 pub record HasStamps {Value Op : Type 0} (config : Config) (w : Facts Op) (v : RunState Value Op)
     (i : ℕ) (replica : ReplicaState Value Op) : Type 0 where
   pub prefixes : IsCounted (w.received i) replica.causal.rep_ts
+  pub clock : replica.causal.clock ≡ w.clock i
   pub value : StandsForSet config w v replica.causal.val_ts (ready w.accepted (w.received i))
   pub updates : Each (IsUpdateIn config w v) replica.causal.updates
+  pub acks : replica.causal.acks ≡ acked config w i
   pub held : Each (IsHeldIn config w v i) replica.causal.held
   pub by_call : AreByCall replica.causal.calls
   pub executed : (cid : Cid) → is_some (known_of replica.causal.calls cid)
@@ -145,14 +153,23 @@ pub record HasStamps {Value Op : Type 0} (config : Config) (w : Facts Op) (v : R
   pub known : (cid : Cid) (known : Known) → known_of replica.causal.calls cid ≡ Some known
       → IsKnownIn config w v cid known
 
+-- a call of the run is this one of the facts, or there is neither
+-- for example: of no open call: none
+abbrev pub IsOpenIn : {Value Op : Type 0} → Config → Facts Op → RunState Value Op → Option (LabelledCall Op)
+    → Option (Call Op) → Type 0
+IsOpenIn config w v None None = Unit {0}
+IsOpenIn config w v (Some of) (Some d) = IsCallIn config w v of d
+IsOpenIn config w v _ _ = ⊥
+
 -- a front end of the run is this client's: it made as many calls as in the facts, shows the same clock and has the same
--- open call, and its stamp stands for the label
+-- open call and the same last answered update, and its stamp stands for the label
 pub record IsFrontIn {Value Op : Type 0} (config : Config) (w : Facts Op) (v : RunState Value Op)
-    (client : ℕ) (front : FrontState) : Type 0 where
+    (client : ℕ) (front : FrontState Op) : Type 0 where
   pub client_is : front.client ≡ client
   pub calls : front.calls ≡ (w.front client).calls
   pub clock : front.clock ≡ (w.front client).clock
-  pub open_call : front.open_call ≡ option_map (λ call. call.cid) (w.front client).open_call
+  pub open_call : IsOpenIn config w v (w.front client).open_call front.open_call
+  pub answered : front.answered ≡ (w.front client).answered
   pub label : StandsForSet config w v front.label (w.front client).label
 
 -- causes exist and come first, the facts have as many messages as the run sent, each message is that of its number,
@@ -162,7 +179,7 @@ pub record IsCentral {Value Op : Type 0} (config : Config) (w : Facts Op) (v : R
   pub replicas : (i : ℕ) → i < config.replicas
       → (replica : ReplicaState Value Op) × (slice_get v.replicas i ≡ Some replica) × HasStamps config w v i replica
   pub fronts : (client : ℕ) → client < config.clients
-      → (front : FrontState) × (slice_get v.fronts client ≡ Some front) × IsFrontIn config w v client front
+      → (front : FrontState Op) × (slice_get v.fronts client ≡ Some front) × IsFrontIn config w v client front
   pub count : length w.messages ≡ length v.posted
   pub messages : (n : ℕ) (p : Posted Op) → message_at v.posted n ≡ Some p
       → (x : SentMessage Op)

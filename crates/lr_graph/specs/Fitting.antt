@@ -3,14 +3,17 @@
 use Rattle.std.specs.Prelude.{◌≢◌, ℕ, ◌<◌, ◌^◌, List, length}
 use Rattle.std.specs.List.{All}
 use Rattle.lr_base.specs.declared.events.Event.{Event}
-use Rattle.lr_base.specs.declared.events.Event.TheVariants.{Call, Deliver, Gossip as GossipEvent, Show}
+use Rattle.lr_base.specs.declared.events.Event.TheVariants.{Call, Resend, Ack as AckEvent, Deliver, Tick}
+use Rattle.lr_base.specs.declared.events.Event.TheVariants.{Gossip as GossipEvent, Show}
 use Rattle.lr_base.specs.declared.events.Outcome.{Outcome}
-use Rattle.lr_base.specs.declared.events.Outcome.TheVariants.{Send, Accept, Hold, Take, Got, Stale}
+use Rattle.lr_base.specs.declared.events.Outcome.TheVariants.{Send, Accept, Note, Hold, Take, Got, Stale, ClockAt}
 use Rattle.lr_base.specs.declared.events.Outcome.TheVariants.{NoMessage, Refuse, State}
 use Rattle.lr_base.specs.declared.events.Refusal.{Refusal}
-use Rattle.lr_base.specs.declared.events.Refusal.TheVariants.{Late, Again, Settled, FullLog, FullHeld, Worn, Unfinished}
+use Rattle.lr_base.specs.declared.events.Refusal.TheVariants.{Late, Again, Settled, Noted}
+use Rattle.lr_base.specs.declared.events.Refusal.TheVariants.{FullLog, FullHeld, Worn, Unfinished}
+use Rattle.lr_base.specs.declared.events.Refusal.TheVariants.{Idle, Nothing}
 use Rattle.lr_base.specs.declared.events.Sent.{Sent}
-use Rattle.lr_base.specs.declared.events.Sent.TheVariants.{Update, Query, Done, Answer, Gossip}
+use Rattle.lr_base.specs.declared.events.Sent.TheVariants.{Update, Query, Ack, Done, Answer, Gossip}
 use Rattle.lr_base.specs.declared.events.StateLine.{StateLine}
 use Rattle.lr_base.specs.declared.events.Step.{Step}
 use Rattle.lr_base.specs.declared.names.Actor.{Actor}
@@ -54,6 +57,7 @@ HasNoFeed text = All (λ byte. byte ≢ 10) text
 abbrev pub SentFits : Sent → Type 0
 SentFits (Update cid time) = CidFits cid × NumberFits time
 SentFits (Query cid) = CidFits cid
+SentFits (Ack cid time) = CidFits cid × NumberFits time
 SentFits (Done cid spot) = CidFits cid × SpotFits spot
 SentFits (Answer cid text) = CidFits cid × HasNoFeed text
 SentFits Gossip = Unit
@@ -64,10 +68,13 @@ abbrev pub RefusalFits : Refusal → Type 0
 RefusalFits (Late time clock) = NumberFits time × NumberFits clock
 RefusalFits (Again spot) = SpotFits spot
 RefusalFits Settled = Unit
+RefusalFits (Noted spot) = SpotFits spot
 RefusalFits FullLog = Unit
 RefusalFits FullHeld = Unit
 RefusalFits Worn = Unit
 RefusalFits (Unfinished cid) = CidFits cid
+RefusalFits Idle = Unit
+RefusalFits Nothing = Unit
 
 -- all numbers of a state fit
 pub record StateFits (line : StateLine) : Type 0 where
@@ -86,10 +93,12 @@ pub record StateFits (line : StateLine) : Type 0 where
 abbrev pub OutcomeFits : Outcome → Type 0
 OutcomeFits (Send number from to what) = NumberFits number × ActorFits from × ActorFits to × SentFits what
 OutcomeFits (Accept spot cid) = SpotFits spot × CidFits cid
+OutcomeFits (Note spot cid) = SpotFits spot × CidFits cid
 OutcomeFits (Hold cid) = CidFits cid
 OutcomeFits (Take count) = NumberFits count
 OutcomeFits (Got cid) = CidFits cid
 OutcomeFits (Stale cid) = CidFits cid
+OutcomeFits (ClockAt reading) = NumberFits reading
 OutcomeFits (NoMessage message) = NumberFits message
 OutcomeFits (Refuse why) = RefusalFits why
 OutcomeFits (State line) = StateFits line
@@ -98,7 +107,10 @@ OutcomeFits (State line) = StateFits line
 -- for example: `deliver 7`
 abbrev pub EventNumberFits : {Op : Type 0} → Event Op → Type 0
 EventNumberFits (Call client replica reading op) = NumberFits reading
+EventNumberFits (Resend client replica reading) = NumberFits reading
+EventNumberFits (AckEvent client replica reading) = NumberFits reading
 EventNumberFits (Deliver message) = NumberFits message
+EventNumberFits (Tick replica reading) = NumberFits reading
 EventNumberFits (GossipEvent from to) = Unit
 EventNumberFits (Show replica) = Unit
 

@@ -1,9 +1,11 @@
 -- To be believed: the graph of updates: the facts that a history gives, and what follows from them.
 use Rattle.std.specs.Prelude.{ℕ, zero, suc, ◌==◌, Bool, ◌&&◌, ◌||◌, not, if◌then◌else◌}
-use Rattle.std.specs.Prelude.{List, [], ◌∷◌, ◌++◌, Option, Some, None, is_some}
+use Rattle.std.specs.Prelude.{List, [], ◌∷◌, ◌++◌, map, Option, Some, None, is_some}
 use Rattle.std.specs.List.{list_any, list_all}
-use Rattle.lr_base.specs.Ascending.{same_cid}
+use Rattle.lr_base.specs.Ascending.{is_before, same_cid}
+use Rattle.lr_base.specs.Insertion.{insert_by}
 use Rattle.lr_base.specs.Meaning.{Meaning}
+use Rattle.lr_base.specs.declared.messages.LogAck.{LogAck}
 use Rattle.lr_base.specs.declared.names.Actor.{Actor}
 use Rattle.lr_base.specs.declared.names.Cid.{Cid}
 use Rattle.lr_base.specs.declared.names.Spot.{Spot}
@@ -32,13 +34,16 @@ pub data Carried (Op : Type 0) : Type 0 where
   -- a copy of a query's call
   -- for example: `query 0.2`
   QueryCopy : (call : LabelledCall Op) → Carried Op
+  -- an acknowledgement of an update that was answered, with the time at which it was made
+  -- for example: `ack 0.1 at 7`
+  AckCopy : (cid : Cid) (time : ℕ) → Carried Op
   -- the reply to an update, with the updates that it stands for: the acceptance and its causes
   -- for example: `done 0.1 as 0:1` stands for `0:1`
   DoneReply : (cid : Cid) (names : SpotSet) → Carried Op
   -- the reply to a query, with the updates that it stands for: all that were ready
   -- for example: the answer to `0.2` stands for `0:1`
   AnswerReply : (cid : Cid) (names : SpotSet) → Carried Op
-  -- gossip, with the acceptances that its sender had received
+  -- gossip, with the items that its sender had received
   -- for example: `gossip 0 1` after the addition carries `0:1`
   GossipOf : (names : SpotSet) → Carried Op
   -- nothing: what would be sent of a call that isn't open; no rule here sends it
@@ -52,13 +57,15 @@ pub record SentMessage (Op : Type 0) : Type 0 where
   pub to : Actor
   pub what : Carried Op
 
--- a front end: what its label names, how many calls it made, its clock and its open call
--- for example: nothing, 1, 5, `0.1` after the first call
+-- a front end: what its label names, how many calls it made, its clock, its open call, and the last update that was
+-- answered
+-- for example: nothing, 1, 5, `0.1`, none after the first call
 pub record FrontFacts (Op : Type 0) : Type 0 where
   pub label : SpotSet
   pub calls : ℕ
   pub clock : ℕ
   pub open_call : Option (LabelledCall Op)
+  pub answered : Option Cid
 
 -- an executed call, and the spot that is kept of it
 -- for example: `0.1`, `0:1`
@@ -66,25 +73,30 @@ pub record Kept : Type 0 where
   pub cid : Cid
   pub spot : Spot
 
--- the facts of a history: acceptances and messages have the newest first, the rest is by replica or by client
+-- the facts of a history: acceptances, acknowledgements that were noted, and messages have the newest first, the rest
+-- is by replica or by client
 -- for example: see `first_facts`
 pub record Facts (Op : Type 0) : Type 0 where
   pub accepted : List (Acceptance Op)
+  pub acks : List LogAck
   pub messages : List (SentMessage Op)
   pub received : ℕ → SpotSet
   pub kept : ℕ → List Kept
   pub held : ℕ → List (LabelledCall Op)
+  pub clock : ℕ → ℕ
   pub front : ℕ → FrontFacts Op
 
 -- the facts before any event
 abbrev pub first_facts : {Op : Type 0} → Facts Op
 first_facts = record {
   accepted = [];
+  acks = [];
   messages = [];
   received = λ i. nothing;
   kept = λ i. [];
   held = λ i. [];
-  front = λ f. record { label = nothing; calls = 0; clock = 0; open_call = None };
+  clock = λ i. 0;
+  front = λ f. record { label = nothing; calls = 0; clock = 0; open_call = None; answered = None };
 }
 
 -- whether each acceptance of one set is in the other
@@ -117,22 +129,33 @@ value m [] set = m.start
 value m (a ∷ older) set =
     if set a.spot && not (has_call older set a.cid) then m.apply (value m older set) a.op else value m older set
 
--- how many acceptances there are at a place
+-- the spots of all items: acceptances and acknowledgements share the numbers of their places
+-- for example: `0:1` of the addition, and `0:2` of its acknowledgement
+abbrev pub item_spots : {Op : Type 0} → Facts Op → List Spot
+item_spots w = map (λ a. a.spot) w.accepted ++ map (λ a. a.spot) w.acks
+
+-- how many items there are at a place
 -- for example: 1 at place 0
-abbrev pub made : {Op : Type 0} → List (Acceptance Op) → ℕ → ℕ
-made accepted place = how_many (λ a. a.spot.place == place) accepted
+abbrev pub made : List Spot → ℕ → ℕ
+made spots place = how_many (λ s. s.place == place) spots
 
--- how many acceptances of a set there are
+-- how many items of a set there are
 -- for example: 1 of `only 0:1`, 0 of `nothing`
-abbrev pub size_of : {Op : Type 0} → List (Acceptance Op) → SpotSet → ℕ
-size_of accepted set = how_many (λ a. set a.spot) accepted
+abbrev pub size_of : List Spot → SpotSet → ℕ
+size_of spots set = how_many set spots
 
--- how many acceptances of a set there are at each of the first places
+-- how many items of a set there are at each of the first places
 -- for example: `[1, 0]` for two places
-abbrev pub counts : {Op : Type 0} → List (Acceptance Op) → SpotSet → ℕ → List ℕ
-counts accepted set zero = []
-counts accepted set (suc place) =
-    counts accepted set place ++ how_many (λ a. (a.spot.place == place) && set a.spot) accepted ∷ []
+abbrev pub counts : List Spot → SpotSet → ℕ → List ℕ
+counts spots set zero = []
+counts spots set (suc place) = counts spots set place ++ how_many (λ s. (s.place == place) && set s) spots ∷ []
+
+-- the acknowledgements that pass a test, in the order of their spots
+-- for example: that of `0.1` at `0:2`
+abbrev pub acks_of : (LogAck → Bool) → List LogAck → List LogAck
+acks_of test [] = []
+acks_of test (a ∷ older) =
+    if test a then insert_by (λ x y. is_before x.spot y.spot) a (acks_of test older) else acks_of test older
 
 -- the spots of a set, ascending
 -- for example: `0:1, 0:2, 1:1`

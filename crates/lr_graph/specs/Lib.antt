@@ -17,3 +17,4 @@ pub mod Tables
 pub mod Told
 pub mod Slow
 pub mod Promises
+pub mod Timed

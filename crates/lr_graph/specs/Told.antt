@@ -5,7 +5,7 @@ use Rattle.std.specs.Option.{option_map}
 use Rattle.lr_base.specs.declared.names.Spot.{Spot}
 use Rattle.lr_graph.specs.After.{Handling}
 use Rattle.lr_graph.specs.Graph.{Acceptance, Carried, Facts, FrontFacts, LabelledCall, SentMessage, is_within}
-use Rattle.lr_graph.specs.Graph.{UpdateCopy, QueryCopy, DoneReply, AnswerReply, GossipOf, Blank}
+use Rattle.lr_graph.specs.Graph.{UpdateCopy, QueryCopy, AckCopy, DoneReply, AnswerReply, GossipOf, Blank}
 use Rattle.lr_graph.specs.Sets.{SpotSet, nothing, same_spot}
 use Rattle.lr_graph.specs.Tables.{entry_at}
 use Rattle.lr_graph.specs.declared.facts.entry.Entry.{Entry}
@@ -15,7 +15,7 @@ use Rattle.lr_graph.specs.declared.facts.items.FrontNow.{FrontNow}
 use Rattle.lr_graph.specs.declared.facts.items.Gathered.{Gathered}
 use Rattle.lr_graph.specs.declared.facts.items.Handled.{Handled}
 use Rattle.lr_graph.specs.declared.facts.items.Load.{Load}
-use Rattle.lr_graph.specs.declared.facts.items.Load.TheVariants.{Update, Query, Done, Answer, Gossip, Nothing}
+use Rattle.lr_graph.specs.declared.facts.items.Load.TheVariants.{Update, Query, Ack, Done, Answer, Gossip, Nothing}
 use Rattle.lr_graph.specs.declared.facts.items.SentCopy.{SentCopy}
 
 -- the set of the spots of a list
@@ -35,6 +35,7 @@ call_of call = record { cid = call.cid; op = call.op; label = set_of call.label 
 abbrev pub load_of : {Op : Type 0} → Load Op → Carried Op
 load_of (Update call time) = UpdateCopy (call_of call) time
 load_of (Query call) = QueryCopy (call_of call)
+load_of (Ack cid time) = AckCopy cid time
 load_of (Done cid names) = DoneReply cid (set_of names)
 load_of (Answer cid names) = AnswerReply cid (set_of names)
 load_of (Gossip names) = GossipOf (set_of names)
@@ -55,6 +56,7 @@ front_of front = record {
   calls = min front.calls (2 ^ 62);
   clock = front.clock;
   open_call = option_map call_of front.open_call;
+  answered = front.answered;
 }
 
 -- the set that is told, or nothing
@@ -64,7 +66,7 @@ set_or_nothing (Some list) = set_of list
 
 -- a front end that made no call
 abbrev pub first_front : {Op : Type 0} → FrontFacts Op
-first_front = record { label = nothing; calls = 0; clock = 0; open_call = None }
+first_front = record { label = nothing; calls = 0; clock = 0; open_call = None; answered = None }
 
 -- the front end that is told, or one that made no call
 abbrev pub front_or_first : {Op : Type 0} → Option (FrontNow Op) → FrontFacts Op
@@ -80,18 +82,20 @@ received_in entries i = set_or_nothing (entry_at entries i)
 abbrev pub fronts_in : {Op : Type 0} → List (Entry (FrontNow Op)) → ℕ → FrontFacts Op
 fronts_in entries client = front_or_first (entry_at entries client)
 
--- facts without what replicas hold and keep
+-- facts without acknowledgements, clocks, and what replicas hold and keep
 abbrev pub bare : {Op : Type 0} → Facts Op → Facts Op
-bare w = record w { kept = λ i. []; held = λ i. [] }
+bare w = record w { acks = []; kept = λ i. []; held = λ i. []; clock = λ i. 0 }
 
--- the facts that are told: all but what replicas hold and keep
+-- the facts that are told: all but acknowledgements, clocks, and what replicas hold and keep
 abbrev pub told : {Op : Type 0} → Gathered Op → Facts Op
 told g = record {
   accepted = map acceptance_of g.accepted;
+  acks = [];
   messages = map sent_message_of g.messages;
   received = received_in g.received;
   kept = λ i. [];
   held = λ i. [];
+  clock = λ i. 0;
   front = fronts_in g.fronts;
 }
 

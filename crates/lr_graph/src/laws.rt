@@ -10,16 +10,18 @@ ghost use Rattle.lr_graph.specs.Answers.{HasPrintableAnswer};
 ghost use Rattle.lr_graph.specs.Central.{IsCentral, facts_after};
 ghost use Rattle.lr_graph.specs.Closed.{Each, IsClosed, IsSound, IsWithin};
 ghost use Rattle.lr_graph.specs.Fitting.{HistoryFits, OutcomeFits};
-ghost use Rattle.lr_graph.specs.Graph.{Acceptance, Facts, first_facts, ready, value};
+ghost use Rattle.lr_graph.specs.Graph.{AckCopy, Acceptance, Facts, first_facts, ready, value};
 ghost use Rattle.lr_graph.specs.Legal.{IsLegal};
 ghost use Rattle.lr_graph.specs.Made.{IsMade, made_step};
 ghost use Rattle.lr_graph.specs.Orderings.{IsReadyOrder, everything, ready_as_made};
+ghost use Rattle.lr_graph.specs.Promises.{facts_of};
 ghost use Rattle.lr_graph.specs.Runs.{RunState, first_run, history_of, run_after, stepped};
 ghost use Rattle.lr_graph.specs.Sets.{SpotSet};
 ghost use Rattle.lr_graph.specs.Slow.{value_after};
+ghost use Rattle.lr_graph.specs.Timed.{IsOver, IsTimed, WasSent};
 
 use lr_base::lr_service::Service;
-use lr_base::{Actor, Config, Event, Sent, Step};
+use lr_base::{Actor, Cid, Config, Event, Sent, Step};
 
 /// A history that the actors of a run make, each by its own rules, is legal.
 pub fn what_is_made_is_legal<S: Service>()
@@ -113,4 +115,21 @@ pub fn what_is_printed_fits<S: Service>()
     ensures { (config : Config) (steps : List (Step S.Op))
         → IsValid config → IsLegal S.meaning config steps → HistoryFits steps
         → Each (λ step. All OutcomeFits step.outcomes) steps }
+{}
+
+/// No copy of a call is later than an acknowledgement of it: from when one is noted at a replica, and from when one is
+/// sent, the call is over, whatever the history goes on with. Every copy of it, sent before or after, has at most the
+/// acknowledgement's time then; and no front end has the call open, so that none sends it again. What keeps times in
+/// order is that copies of an update have the clocks of its client, and an acknowledgement comes behind the reply.
+pub fn no_copy_is_later_than_an_acknowledgement<S: Service>()
+    ensures noted { (config : Config) (steps later : List (Step S.Op))
+        → IsLegal S.meaning config (steps ++ later)
+        → Each (λ a. IsOver (facts_of S.meaning config (steps ++ later)) a.cid a.time)
+        (facts_of S.meaning config steps).acks }
+    ensures sent { (config : Config) (steps later : List (Step S.Op)) (cid : Cid) (time : ℕ)
+        → IsLegal S.meaning config (steps ++ later)
+        → WasSent (facts_of S.meaning config steps).messages (AckCopy cid time)
+        → IsOver (facts_of S.meaning config (steps ++ later)) cid time }
+    ensures times { (config : Config) (steps : List (Step S.Op))
+        → IsLegal S.meaning config steps → IsTimed (facts_of S.meaning config steps) }
 {}

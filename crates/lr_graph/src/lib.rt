@@ -10,9 +10,10 @@ mod worked;
 
 pub use laws::{
     a_made_history_goes_on, answers_are_printable, every_order_gives_one_value,
-    legal_histories_are_one, ready_is_the_greatest_closed_set,
-    replicas_have_the_value_of_what_is_ready, runs_are_legal, sending_changes_the_messages_alone,
-    stamps_stand_for_sets, what_is_made_is_legal, what_is_printed_fits,
+    legal_histories_are_one, no_copy_is_later_than_an_acknowledgement,
+    ready_is_the_greatest_closed_set, replicas_have_the_value_of_what_is_ready, runs_are_legal,
+    sending_changes_the_messages_alone, stamps_stand_for_sets, what_is_made_is_legal,
+    what_is_printed_fits,
 };
 pub use listed::{listed_are_the_members, the_least_spot_is_kept};
 pub use promises::{

@@ -6,20 +6,21 @@ use Rattle.std.proofs.lemmas.Option.{slice_get_within}
 use Rattle.lr_base.specs.Fronts.{FrontState}
 use Rattle.lr_base.specs.Meaning.{Meaning}
 use Rattle.lr_base.specs.declared.acts.Posted.{Posted}
-use Rattle.lr_base.specs.declared.messages.Message.{Message}
+use Rattle.lr_base.specs.declared.messages.LogAck.{LogAck}
 use Rattle.lr_base.specs.declared.names.Cid.{Cid}
 use Rattle.lr_base.specs.declared.names.Config.{Config}
-use Rattle.lr_graph.specs.Graph.{Acceptance, Carried, Facts, FrontFacts, LabelledCall, SentMessage}
+use Rattle.lr_graph.specs.Graph.{Acceptance, Facts, FrontFacts, LabelledCall}
 use Rattle.lr_graph.specs.Runs.{RunState, message_at}
-use Rattle.lr_graph.specs.Sets.{SpotSet, put_at}
+use Rattle.lr_graph.specs.Sets.{put_at}
 use Rattle.lr_graph.proofs.Lists.Members.{each-map}
 use Rattle.lr_graph.proofs.Lists.Places.{slice-set_other, slice-set_same}
-use Rattle.lr_graph.proofs.Related.Relation.{HasFront, IsAcceptance, IsIssued, IsOpen, IsSame, IsShared, SameCarried, SameFront, SameMessage, SameOption, calls_in, same_answer, same_done, same_gossip, same_query, same_update}
+use Rattle.lr_graph.proofs.Related.More.{message-more}
+use Rattle.lr_graph.proofs.Related.Relation.{HasFront, IsAcceptance, IsIssued, IsOpen, IsSame, IsShared, SameFront, calls_in}
 use Rattle.lr_graph.proofs.Replicas.Stepping.{put-other, put-same}
 use Rattle.lr_graph.proofs.Lists.Tests.{equal-or-not}
 
 -- other names of calls, which agree on what was issued
-module _ {Value Op : Type 0} (m : Meaning Value Op) (config : Config) (l : List (Acceptance Op)) (issued more : Cid → Option (LabelledCall Op)) (calls after : ℕ → ℕ)
+module _ {Value Op : Type 0} (m : Meaning Value Op) (config : Config) (l : List (Acceptance Op)) (acks : List LogAck) (issued more : Cid → Option (LabelledCall Op)) (calls after : ℕ → ℕ)
     (agree : (c : Cid) → c.seq ≤ calls c.client → more c ≡ issued c) (grows : (client : ℕ) → calls client ≤ after client) where
   issued-more : (c : LabelledCall Op) → IsIssued config.clients issued calls c → IsIssued config.clients more after c
   issued-more c h = record { is = agree c.cid h.number ∙ h.is; number = (let g = grows c.cid.client in let n = h.number in omega arith); client = h.client }
@@ -41,34 +42,23 @@ module _ {Value Op : Type 0} (m : Meaning Value Op) (config : Config) (l : List 
     plain = h.plain;
   }
 
-  carried-issued : (received : ℕ → SpotSet) (x : Carried Op) (p : Message Op) → SameCarried m config l received issued calls x p → SameCarried m config l received more after x p
-  carried-issued received x p (same_update e f t time call times by update) = same_update e f t time call times (issued-more e by) update
-  carried-issued received x p (same_query e f call by) = same_query e f call (issued-more e by)
-  carried-issued received x p (same_done cid other names at stamp cids named set done) = same_done cid other names at stamp cids named set done
-  carried-issued received x p (same_answer cid other names text stamp cids named set) = same_answer cid other names text stamp cids named set
-  carried-issued received x p (same_gossip names g h) = same_gossip names g h
-
-  option-issued : (received : ℕ → SpotSet) (o : Option (SentMessage Op)) (p : Option (Posted Op)) → SameOption (SameMessage m config l received issued calls) o p → SameOption (SameMessage m config l received more after) o p
-  option-issued received None None h = tt
-  option-issued received None (Some p) h = h
-  option-issued received (Some x) None h = h
-  option-issued received (Some x) (Some p) h = record { from = h.from; to = h.to; way = h.way; there = h.there; what = carried-issued received x.what p.message h.what }
-
 module _ {Value Op : Type 0} (m : Meaning Value Op) (config : Config) (w : Facts Op) (v : RunState Value Op) (same : IsSame m config w v) (client : ℕ) (here : client < config.clients)
-    (before : FrontState) (there : slice_get v.fronts client ≡ Some before) where
+    (before : FrontState Op) (there : slice_get v.fronts client ≡ Some before) where
   -- this front end is changed on both sides: what is shared goes on to hold
-  pub front-shared : (more : Cid → Option (LabelledCall Op)) (a : FrontFacts Op) (f : FrontState) → SameFront w.accepted client a f → (w.front client).calls ≤ a.calls
+  pub front-shared : (more : Cid → Option (LabelledCall Op)) (a : FrontFacts Op) (f : FrontState Op) → SameFront w.accepted client a f → (w.front client).calls ≤ a.calls
       → ((c : Cid) → c.seq ≤ calls_in w c.client → more c ≡ same.issued c) → IsOpen config.clients more (λ j. (put_at client a w.front j).calls) a.open_call
       → IsShared m config more (record w { front = put_at client a w.front }) (set v.fronts client f) v.posted
   front-shared more a f is le agree opened = record {
     sound = same.shared.sound;
-    each = each-map _ _ w.accepted (acceptance-more m config w.accepted same.issued more (calls_in w) after agree grows) same.shared.each;
+    each = each-map _ _ w.accepted (acceptance-more m config w.accepted w.acks same.issued more (calls_in w) after agree grows) same.shared.each;
+    apart = same.shared.apart;
+    numbered = same.shared.numbered;
     own = same.shared.own;
     exist = same.shared.exist;
     fronts_are = fronts;
     opened = opened_all;
     count = same.shared.count;
-    messages = λ n. option-issued m config w.accepted same.issued more (calls_in w) after agree grows w.received (find (λ y. y.number == n) w.messages) (message_at v.posted n) (same.shared.messages n);
+    messages = λ n. message-more m config (λ c d call. call) (λ x set. set) (λ c s x done. done) (issued-more m config w.accepted w.acks same.issued more (calls_in w) after agree grows) (λ x g gossip. gossip) (find (λ y. y.number == n) w.messages) (message_at v.posted n) (same.shared.messages n);
   }
     where
       after : ℕ → ℕ
@@ -96,10 +86,10 @@ module _ {Value Op : Type 0} (m : Meaning Value Op) (config : Config) (w : Facts
         where
           by_place : (t : Bool) → IsOpen config.clients more after (cond t a (w.front j)).open_call
           by_place true = opened
-          by_place false = open-more m config w.accepted same.issued more (calls_in w) after agree grows (w.front j).open_call (same.shared.opened j)
+          by_place false = open-more m config w.accepted w.acks same.issued more (calls_in w) after agree grows (w.front j).open_call (same.shared.opened j)
 
   -- and all else too
-  pub front-changed : (more : Cid → Option (LabelledCall Op)) (a : FrontFacts Op) (f : FrontState) → SameFront w.accepted client a f → (w.front client).calls ≤ a.calls
+  pub front-changed : (more : Cid → Option (LabelledCall Op)) (a : FrontFacts Op) (f : FrontState Op) → SameFront w.accepted client a f → (w.front client).calls ≤ a.calls
       → ((c : Cid) → c.seq ≤ calls_in w c.client → more c ≡ same.issued c) → IsOpen config.clients more (λ j. (put_at client a w.front j).calls) a.open_call
       → IsSame m config (record w { front = put_at client a w.front }) (record v { fronts = set v.fronts client f })
   front-changed more a f is le agree opened = record { issued = more; shared = front-shared more a f is le agree opened; replicas = same.replicas }

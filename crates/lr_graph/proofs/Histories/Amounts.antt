@@ -1,13 +1,13 @@
 -- How many things a table's lists have together, and what holds of all that is read from acceptances.
 use Rattle.std.proofs.Common.{◌≡◌, ℕ, zero, suc, ◌+◌, ◌<◌, ◌≤◌, Bool, true, false, cond, ◌&&◌, ◌⊎◌, inl, inr}
-use Rattle.std.proofs.Common.{List, [], ◌∷◌, ◌++◌, length, Option, Some, None, is_some, refl, ap, ◌∙◌, arith}
-use Rattle.std.proofs.lemmas.List.{length-append}
+use Rattle.std.proofs.Common.{List, [], ◌∷◌, ◌++◌, length, map, Option, Some, None, is_some, refl, ap, ◌∙◌, arith}
+use Rattle.std.proofs.lemmas.List.{length-append, length-map}
 use Rattle.lr_base.specs.Ascending.{cid_before, is_before, same_cid}
 use Rattle.lr_base.specs.InsertionLaws.{each-inserted}
 use Rattle.lr_base.specs.declared.names.Cid.{Cid}
 use Rattle.lr_base.specs.declared.names.Spot.{Spot}
 use Rattle.lr_graph.specs.Closed.{Each}
-use Rattle.lr_graph.specs.Graph.{Acceptance, Kept, calls_of, counts, keep_new, keep_one, kept_spot, least_spot, spots_of}
+use Rattle.lr_graph.specs.Graph.{Acceptance, Facts, Kept, calls_of, counts, item_spots, keep_new, keep_one, kept_spot, least_spot, spots_of}
 use Rattle.lr_graph.specs.Sets.{SpotSet, how_many, insert_call, insert_spot, lesser, put_at}
 use Rattle.lr_graph.proofs.Lists.Members.{each-append}
 use Rattle.lr_graph.proofs.Lists.Tests.{equal-or-not, le-or-lt}
@@ -116,13 +116,21 @@ module _ (P : Spot → Type 0) where
   keep_one-each cid (Some spot) kept true is h = h
   keep_one-each cid (Some spot) kept false is h = each-append (λ k. P k.spot) kept _ h (is, tt)
 
+-- what holds of numbers up to that of all items holds of each count
+pub counts-each : (P : ℕ → Type 0) (l : List Spot) → ((n : ℕ) → n ≤ length l → P n)
+    → (set : SpotSet) (places : ℕ) → Each P (counts l set places)
+counts-each P l most set zero = tt
+counts-each P l most set (suc place) =
+    each-append P (counts l set place) _ (counts-each P l most set place) (most _ (how_many-most _ l), tt)
+
 module _ {Op : Type 0} where
-  -- what holds of numbers up to that of all acceptances holds of each count
-  pub counts-each : (P : ℕ → Type 0) (l : List (Acceptance Op)) → ((n : ℕ) → n ≤ length l → P n)
-      → (set : SpotSet) (places : ℕ) → Each P (counts l set places)
-  counts-each P l most set zero = tt
-  counts-each P l most set (suc place) =
-      each-append P (counts l set place) _ (counts-each P l most set place) (most _ (how_many-most _ l), tt)
+  -- how many items there are
+  pub items-length : (w : Facts Op) → length (item_spots w) ≡ length w.accepted + length w.acks
+  items-length w =
+      let a = length-map w.accepted (λ a. a.spot) in
+      let b = length-map w.acks (λ a. a.spot) in
+      let both = length-append (map (λ a. a.spot) w.accepted) (map (λ a. a.spot) w.acks) in
+      omega arith
 
   module _ (P : Spot → Type 0) where
     -- P holds of each acceptance's spot

@@ -9,7 +9,7 @@ use Rattle.lr_base.specs.Replicas.{first_replica}
 use Rattle.lr_base.specs.Rules.{first_state}
 use Rattle.lr_base.specs.Stamps.{part}
 use Rattle.lr_base.specs.declared.events.Event.{Event}
-use Rattle.lr_base.specs.declared.events.Event.TheVariants.{Call, Deliver, Gossip as GossipEvent, Show}
+use Rattle.lr_base.specs.declared.events.Event.TheVariants.{Call, Resend, Ack as AckEvent, Deliver, Tick, Gossip as GossipEvent, Show}
 use Rattle.lr_base.specs.declared.events.Outcome.{Outcome}
 use Rattle.lr_base.specs.declared.events.Step.{Step}
 use Rattle.lr_base.specs.declared.lr_service.Kind.{Kind}
@@ -71,20 +71,20 @@ module _ {Value Op : Type 0} (m : Meaning Value Op) (config : Config) where
       by_place (inr apart) rest =
           slice-before (first_replicas m config k) (first_replica m config k) i (let n = length-replicas k in omega arith) ∙ rest (omega arith)
 
-  length-fronts : (k : ℕ) → length (first_fronts config k) ≡ k
+  length-fronts : (k : ℕ) → length (first_fronts {Op = Op} config k) ≡ k
   length-fronts zero = refl
-  length-fronts (suc k) = length-append (first_fronts config k) (new_front k (config.replicas + 1) ∷ []) ∙ (let rest = length-fronts k in omega arith)
+  length-fronts (suc k) = length-append (first_fronts config k) (new_front config k ∷ []) ∙ (let rest = length-fronts k in omega arith)
 
-  front-there : (k i : ℕ) → i < k → slice_get (first_fronts config k) i ≡ Some (new_front i (config.replicas + 1))
+  front-there : (k i : ℕ) → i < k → slice_get (first_fronts {Op = Op} config k) i ≡ Some (new_front config i)
   front-there zero i within = absurd (omega arith)
   front-there (suc k) i within = by_place (equal-or-not i k) (front-there k i)
     where
-      by_place : (i ≡ k) ⊎ (i ≢ k) → (i < k → slice_get (first_fronts config k) i ≡ Some (new_front i (config.replicas + 1))) → slice_get (first_fronts config k ++ new_front k (config.replicas + 1) ∷ []) i ≡ Some (new_front i (config.replicas + 1))
+      by_place : (i ≡ k) ⊎ (i ≢ k) → (i < k → slice_get (first_fronts {Op = Op} config k) i ≡ Some (new_front config i)) → slice_get (first_fronts {Op = Op} config k ++ new_front config k ∷ []) i ≡ Some (new_front config i)
       by_place (inl e) rest =
-          ap (slice_get (first_fronts config k ++ new_front k (config.replicas + 1) ∷ [])) (e ∙ sym (length-fronts k)) ∙ slice-behind (first_fronts config k) (new_front k (config.replicas + 1))
-          ∙ ap (λ j. Some (new_front j (config.replicas + 1))) (sym e)
+          ap (slice_get (first_fronts config k ++ new_front config k ∷ [])) (e ∙ sym (length-fronts k)) ∙ slice-behind (first_fronts config k) (new_front config k)
+          ∙ ap (λ j. Some (new_front config j)) (sym e)
       by_place (inr apart) rest =
-          slice-before (first_fronts config k) (new_front k (config.replicas + 1)) i (let n = length-fronts k in omega arith) ∙ rest (omega arith)
+          slice-before (first_fronts config k) (new_front config k) i (let n = length-fronts k in omega arith) ∙ rest (omega arith)
 
   none_sent : (n : ℕ) → message_at {Op = Op} [] n ≡ None
   none_sent zero = refl
@@ -104,7 +104,7 @@ module _ {Value Op : Type 0} (m : Meaning Value Op) (config : Config) where
       value_is = refl;
       table = record { spots = λ cid. refl; known = λ cid. refl; stamps = λ cid k e. absurd (none_some k e) };
     };
-    still = record { clock = refl; acks = refl; imm = part-zeros (config.replicas + 1); parts = length-zeros (config.replicas + 1); keys = tt };
+    still = record { imm = part-zeros (config.replicas + 1); parts = length-zeros (config.replicas + 1); keys = tt };
     held_are = tt;
   }
     where
@@ -117,28 +117,34 @@ module _ {Value Op : Type 0} (m : Meaning Value Op) (config : Config) where
     shared = record {
       sound = record { apart = tt; closed = tt; older = tt; numbered = tt };
       each = tt;
-      own = λ a member. absurd member;
+      apart = tt;
+      numbered = tt;
+      own = λ s member. absurd member;
       exist = λ i s e. absurd (true≢false (sym e));
       fronts_are = λ client within. (
-        new_front client (config.replicas + 1),
+        new_front config client,
         front-there config.clients client within,
         record {
           client_is = refl;
           calls = refl;
           clock = refl;
-          open_call = refl;
+          open_call = tt;
+          own_call = tt;
+          answered = refl;
+          own_answered = tt;
           names = names-nothing (config.replicas + 1);
           set = empty-set;
         },
       );
       opened = λ client. tt;
       count = refl;
-      messages = λ n. subst (λ o. SameOption (SameMessage m config [] (λ i. nothing) (λ cid. None) (λ client. 0)) None o) (sym (none_sent n)) tt;
+      messages = λ n. subst (λ o. SameOption (SameMessage m config [] [] (λ i. nothing) (λ cid. None) (λ client. 0)) None o) (sym (none_sent n)) tt;
     };
     replicas = λ i within. (
       first_state m config.replicas (config.replicas + 1),
       record { replica = first_replica m config i; there = replica-there config.replicas i within; setting = refl; number = refl; state_is = refl },
       first-replica-at i,
+      record { clock_is = refl; acks_are = refl },
     );
   }
 
@@ -153,6 +159,9 @@ module _ {Value Op : Type 0} (m : Meaning Value Op) {e : Encoding Value} (kind_o
   event-in : (event : Event Op) → IsEventOf m config event → is_event_in m config event ≡ true
   event-in (Call client replica reading op) fits =
       and-intro _ _ (lt-ltb client config.clients fits.0.0) (and-intro _ _ (lt-ltb replica config.replicas fits.0.1) fits.1)
+  event-in (Resend client replica reading) fits = and-intro _ _ (lt-ltb client config.clients fits.0.0) (lt-ltb replica config.replicas fits.0.1)
+  event-in (AckEvent client replica reading) fits = and-intro _ _ (lt-ltb client config.clients fits.0.0) (lt-ltb replica config.replicas fits.0.1)
+  event-in (Tick replica reading) fits = lt-ltb replica config.replicas fits.0
   event-in (Deliver message) fits = refl
   event-in (GossipEvent from to) fits =
       and-intro _ _ (lt-ltb from config.replicas fits.0.0) (and-intro _ _ (lt-ltb to config.replicas fits.0.1)
@@ -162,12 +171,15 @@ module _ {Value Op : Type 0} (m : Meaning Value Op) {e : Encoding Value} (kind_o
   -- an event of a run calls what has rules
   calls-rules : (event : Event Op) → IsEventOf m config event → CallsFine m HasRules event
   calls-rules (Call client replica reading op) fits = λ update. fits.0.2
+  calls-rules (Resend client replica reading) fits = tt
+  calls-rules (AckEvent client replica reading) fits = tt
+  calls-rules (Tick replica reading) fits = tt
   calls-rules (Deliver message) fits = tt
   calls-rules (GossipEvent from to) fits = tt
   calls-rules (Show replica) fits = tt
 
   -- what is made from a run is legal after the facts that belong to it, and the facts and the run after it belong together
-  made-same : (steps : List (Step Op)) (w : Facts Op) (v run : RunState Value Op) → IsMadeFrom m config v steps run → Holds HasRules w → IsSame m config w v → LegalFrom m config w steps × IsSame m config (facts_after m config w steps) run
+  made-same : (steps : List (Step Op)) (w : Facts Op) (v run : RunState Value Op) → IsMadeFrom m config v steps run → Holds m.kind HasRules w → IsSame m config w v → LegalFrom m config w steps × IsSame m config (facts_after m config w steps) run
   made-same [] w v run made plain same = (tt, subst (IsSame m config w) made same)
   made-same (step ∷ steps) w v run made plain same =
       let one = same-step m kind_of lawful config w v same plain step.event made.0 in
@@ -179,11 +191,11 @@ module _ {Value Op : Type 0} (m : Meaning Value Op) {e : Encoding Value} (kind_o
 
   -- what is made is legal
   pub made-legal : (steps : List (Step Op)) (run : RunState Value Op) → IsMade m config steps run → IsLegal m config steps
-  made-legal steps run made = (made-same steps first_facts (first_run m config) run made (record { accepted = tt; messages = tt }) (first-same m config)).0
+  made-legal steps run made = (made-same steps first_facts (first_run m config) run made (record { accepted = tt; messages = tt; opened = λ client. tt }) (first-same m config)).0
 
   -- the run after what is made and the facts of its history belong together
   pub same-after : (steps : List (Step Op)) (run : RunState Value Op) → IsMade m config steps run → IsSame m config (facts_after m config first_facts steps) run
-  same-after steps run made = (made-same steps first_facts (first_run m config) run made (record { accepted = tt; messages = tt }) (first-same m config)).1
+  same-after steps run made = (made-same steps first_facts (first_run m config) run made (record { accepted = tt; messages = tt; opened = λ client. tt }) (first-same m config)).1
 
 -- ---- legal histories
 

@@ -94,7 +94,9 @@ module _ {Value Op : Type 0} (m : Meaning Value Op) (config : Config) (steps : �
     fit = record {
       spots = f.fit.spots;
       calls = f.fit.calls;
+      acks = f.fit.acks;
       messages = fits;
+      clocks = f.fit.clocks;
       held = put-each (λ j calls. Each CallFits calls) i (waiting m w i (w.held i)) w.held
           (each-map _ CallFits _ (λ call both. both.0) (filter-each CallFits _ (w.held i) (f.fit.held i))) f.fit.held;
       kept = put-each (λ j kept. Each (λ k. SpotFits k.spot) kept) i _ w.kept
@@ -135,10 +137,10 @@ module _ {Value Op : Type 0} (m : Meaning Value Op) (config : Config) (steps : �
 module _ {Value Op : Type 0} (m : Meaning Value Op) {e : Encoding Value} (kind_of : Op → Kind)
     (lawful : Lawful m e kind_of) (config : Config) (valid : IsValid config) where
   -- no answer that a replica would give holds a line feed
-  feedless : (w : Facts Op) → Holds (IsOp m) w → AnswersFine m HasNoFeed w
+  feedless : (w : Facts Op) → Holds m.kind (IsOp m) w → AnswersFine m HasNoFeed w
   feedless w ops i op = no-feed _ (answers-fine m kind_of lawful w ops i op)
 
-  module _ (steps : ℕ) (few : NumberFits (suc steps)) (w : Facts Op) (f : IsFine steps w) (ops : Holds (IsOp m) w)
+  module _ (steps : ℕ) (few : NumberFits (suc steps)) (w : Facts Op) (f : IsFine steps w) (ops : Holds m.kind (IsOp m) w)
       (event : Event Op) (is : is_event_in m config event ≡ true) (brings : EventNumberFits event) where
     own : OwnFits (own_lines m config w event)
     own = own-fits m config steps few w f.fit f.up (feedless w ops) valid event is brings
@@ -180,7 +182,7 @@ module _ {Value Op : Type 0} (m : Meaning Value Op) {e : Encoding Value} (kind_o
         ended-fine m config (suc steps) few _ mid-fine mid-feedless (handling w event) came (stepping w event)
         stepping_fits
 
-  from-fits : (steps : ℕ) (w : Facts Op) → IsFine steps w → Holds (IsOp m) w → (later : List (Step Op))
+  from-fits : (steps : ℕ) (w : Facts Op) → IsFine steps w → Holds m.kind (IsOp m) w → (later : List (Step Op))
       → LegalFrom m config w later → NumberFits (steps + length later) → Each (λ step. EventNumberFits step.event) later
       → Each (λ step. All OutcomeFits step.outcomes) later
   from-fits steps w f ops [] legal few brings = tt
@@ -200,17 +202,19 @@ module _ {Value Op : Type 0} (m : Meaning Value Op) {e : Encoding Value} (kind_o
       → Each (λ step. All OutcomeFits step.outcomes) steps
   printed-fits steps legal fits =
       let few = fits.0 in
-      from-fits 0 first_facts first (record { accepted = tt; messages = tt }) steps legal (omega arith) fits.1
+      from-fits 0 first_facts first (record { accepted = tt; messages = tt; opened = λ client. tt }) steps legal (omega arith) fits.1
     where
       first : IsFine {Op = Op} 0 first_facts
       first = record {
         fit = record {
           spots = tt;
           calls = tt;
+          acks = tt;
           messages = tt;
+          clocks = λ i. omega arith;
           held = λ i. tt;
           kept = λ i. tt;
-          fronts = λ client. (omega arith, tt);
+          fronts = λ client. (omega arith, tt, tt);
         };
         up = record { accepted = omega arith; load = λ n. (let none = amount-empty (LabelledCall Op) n in omega arith); calls = λ client. omega arith };
       }

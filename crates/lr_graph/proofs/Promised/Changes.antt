@@ -9,13 +9,14 @@ use Rattle.lr_base.specs.declared.names.Actor.{Actor}
 use Rattle.lr_base.specs.declared.names.Actor.TheVariants.{Replica}
 use Rattle.lr_base.specs.declared.names.Cid.{Cid}
 use Rattle.lr_base.specs.declared.names.Spot.{Spot}
-use Rattle.lr_graph.specs.After.{accepts, carried, causes_of, copy_of, take_read}
+use Rattle.lr_graph.specs.After.{accepts, carried, causes_of, clock_set, copy_of, notes, take_read}
 use Rattle.lr_graph.specs.Closed.{Each}
 use Rattle.lr_graph.specs.Graph.{Acceptance, Carried, Facts, FrontFacts, Kept, LabelledCall, SentMessage}
-use Rattle.lr_graph.specs.Graph.{UpdateCopy, QueryCopy, DoneReply, AnswerReply, GossipOf, Blank}
+use Rattle.lr_graph.specs.Graph.{UpdateCopy, QueryCopy, AckCopy, DoneReply, AnswerReply, GossipOf, Blank}
 use Rattle.lr_graph.specs.Legal.{next_number}
 use Rattle.lr_graph.specs.Promises.{◌⊆◌}
 use Rattle.lr_graph.specs.Sets.{SpotSet, put_at, only, ◌∪◌}
+use Rattle.lr_graph.specs.Timed.{WasSent}
 use Rattle.lr_graph.proofs.Lists.Members.{each-map}
 use Rattle.lr_graph.proofs.Lists.Tests.{never, or-left}
 use Rattle.lr_graph.proofs.Related.Relation.{calls_in}
@@ -95,15 +96,12 @@ module _ {Op : Type 0} where
       let apart = never (y.number == x.number) (λ e. let same = eqb-true y.number x.number e in absurd (omega arith)) in
       ap (λ t. cond t (Some y) (find (λ z. z.number == x.number) older)) apart ∙ found-among x older numbered.1 among
 
-  -- a message that carries this was sent
-  abbrev pub WasSent : List (SentMessage Op) → Carried Op → Type 0
-  WasSent messages what = (x : SentMessage Op) × IsAmong x messages × (x.what ≡ what)
-
   -- P holds of what a message carries: of its call's label, or of what an answer was read after;
   -- and what is done is what is below an acceptance of the call
   abbrev pub IsFine : (Cid → SpotSet → Type 0) → List (Acceptance Op) → Carried Op → Type 0
   IsFine P l (UpdateCopy call time) = P call.cid call.label
   IsFine P l (QueryCopy call) = P call.cid call.label
+  IsFine P l (AckCopy cid time) = Unit {0}
   IsFine P l (DoneReply cid names) = (a : Acceptance Op) × IsAmong a l × (a.cid ≡ cid) × (a.below ≡ names)
   IsFine P l (AnswerReply cid names) = P cid names
   IsFine P l (GossipOf names) = Unit {0}
@@ -135,6 +133,7 @@ module _ {Op : Type 0} where
         → (what : Carried Op) → IsFine P l what → IsFine Q more what
     fine-more l more into (UpdateCopy call time) h = up call.cid call.label h
     fine-more l more into (QueryCopy call) h = up call.cid call.label h
+    fine-more l more into (AckCopy cid time) h = tt
     fine-more l more into (DoneReply cid names) h = (h.0, into h.0 h.1, h.2, h.3)
     fine-more l more into (AnswerReply cid names) h = up cid names h
     fine-more l more into (GossipOf names) h = tt
@@ -212,6 +211,14 @@ module _ {Op : Type 0} (R : Rule) where
       others = λ j apart. (refl, refl);
     }
 
+    -- a replica's clock changes
+    pub next-clock : (i reading : ℕ) → IsNext at w (clock_set w i reading)
+    next-clock i reading = record {
+      later = later-by ([], refl) ([], refl) (λ j s e. e) (λ j s e. e) (λ j. omega arith);
+      keeps = holds-by h.accepted h.messages h.held h.opened h.numbered;
+      others = λ j apart. (refl, refl);
+    }
+
     -- a front end changes
     pub next-front : (client : ℕ) (new : FrontFacts Op) → (w.front client).label ⊆ new.label
         → calls_in w client ≤ new.calls
@@ -262,6 +269,13 @@ module _ {Op : Type 0} (R : Rule) where
       later = later-by ([], refl) ([], refl) (more-received names) (λ j s e. e) (λ j. omega arith);
       keeps = holds-by h.accepted h.messages h.held h.opened h.numbered;
       others = λ j apart. (elsewhere (w.received i ∪ names) w.received j apart, refl);
+    }
+
+    pub next-noted : (spot : Spot) (cid : Cid) (time : ℕ) → IsNext (Some i) w (notes w i spot cid time)
+    next-noted spot cid time = record {
+      later = later-by ([], refl) ([], refl) (more-received (only spot)) (λ j s e. e) (λ j. omega arith);
+      keeps = holds-by h.accepted h.messages h.held h.opened h.numbered;
+      others = λ j apart. (elsewhere (w.received i ∪ only spot) w.received j apart, refl);
     }
 
     -- what a replica holds and keeps changes

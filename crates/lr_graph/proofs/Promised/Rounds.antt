@@ -23,6 +23,7 @@ use Rattle.lr_graph.specs.Legal.{IsLegal, LegalFrom, answer_line, answers, deliv
 use Rattle.lr_graph.specs.Promises.{◌⊆◌, HasGossiped, HasReceivedAll, IsRound, facts_of}
 use Rattle.lr_graph.specs.Runs.{RunState, first_run}
 use Rattle.lr_graph.specs.Sets.{SpotSet, ◌∪◌}
+use Rattle.lr_graph.proofs.Logs.Items.{accepted-item}
 use Rattle.lr_graph.proofs.Lists.Members.{among-right, each-at, each-from, each-map, filter-each}
 use Rattle.lr_graph.proofs.Lists.Tests.{equal-or-not, not-false, or-right}
 use Rattle.lr_graph.proofs.Promised.Changes.{Extends, IsNumbered, extends-more, found-among}
@@ -232,7 +233,7 @@ module _ {Value Op : Type 0} (m : Meaning Value Op) {e : Encoding Value} (kind_o
         let now = later-point m kind_of lawful config round w at.0 at.1 parts.1 in
         subst (λ (l : List (Acceptance Op)). Each (λ a. last.received i a.spot ≡ true) l) (sym quiet)
         (each-from _ w.accepted (λ a member.
-        let own = at.1.same.shared.own a member in
+        let own = at.1.same.shared.own a.spot (accepted-item w a member) in
         let place = (each-at _ a w.accepted at.1.same.shared.each member).place in
         ap (λ (u : Facts Op). u.received i a.spot) (facts-parts m config before round first_facts)
         ∙ (elim (equal-or-not i a.spot.place) [

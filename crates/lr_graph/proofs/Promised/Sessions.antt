@@ -6,7 +6,7 @@ use Rattle.lr_base.specs.Meaning.{Encoding, Lawful, Meaning}
 use Rattle.lr_base.specs.Orders.{IsAmong}
 use Rattle.lr_base.specs.declared.acts.Posted.{Posted}
 use Rattle.lr_base.specs.declared.events.Event.{Event}
-use Rattle.lr_base.specs.declared.events.Event.TheVariants.{Call, Deliver, Gossip as GossipEvent, Show}
+use Rattle.lr_base.specs.declared.events.Event.TheVariants.{Call, Resend, Ack as AckEvent, Deliver, Tick, Gossip as GossipEvent, Show}
 use Rattle.lr_base.specs.declared.events.Outcome.{Outcome}
 use Rattle.lr_base.specs.declared.events.Outcome.TheVariants.{Got, Stale}
 use Rattle.lr_base.specs.declared.events.Step.{Step}
@@ -20,7 +20,7 @@ use Rattle.lr_graph.specs.After.{after, delivery_of, got_read, lines_read, step_
 use Rattle.lr_graph.specs.Central.{facts_after}
 use Rattle.lr_graph.specs.Closed.{IsSetOf, IsSound}
 use Rattle.lr_graph.specs.Graph.{Acceptance, Carried, Facts, FrontFacts, LabelledCall, SentMessage}
-use Rattle.lr_graph.specs.Graph.{UpdateCopy, QueryCopy, DoneReply, AnswerReply, GossipOf, Blank, ready}
+use Rattle.lr_graph.specs.Graph.{UpdateCopy, QueryCopy, AckCopy, DoneReply, AnswerReply, GossipOf, Blank, ready}
 use Rattle.lr_graph.specs.Legal.{LegalFrom, answers_at, delivery_lines, outcomes_of, reply_line, IsLegalStep}
 use Rattle.lr_graph.specs.Promises.{◌⊆◌}
 use Rattle.lr_graph.specs.Runs.{RunState, message_at}
@@ -31,7 +31,7 @@ use Rattle.lr_graph.proofs.Promised.Changes.{IsOpenFine, Keeps, Rule, holds-more
 use Rattle.lr_graph.proofs.Promised.Points.{IsPoint, fresh, set-later, step-point}
 use Rattle.lr_graph.proofs.Promised.Walk.{IsAnswered, IsOpened, step-next}
 use Rattle.lr_graph.proofs.Related.Relation.{SameCarried, SameMessage, SameOption, calls_in}
-use Rattle.lr_graph.proofs.Related.Relation.{same_answer, same_done, same_gossip, same_query, same_update}
+use Rattle.lr_graph.proofs.Related.Relation.{same_ack, same_answer, same_done, same_gossip, same_query, same_update}
 use Rattle.lr_graph.proofs.Replicas.Stepping.{put-same}
 use Rattle.lr_graph.proofs.Sets.ReadySets.{ready-greatest, within-holds}
 use Rattle.lr_graph.proofs.Handled.{receiving, came_in}
@@ -50,7 +50,8 @@ pub record IsTaken {Op : Type 0} (w : Facts Op) (client : ℕ) (cid : Cid) (name
   pub call : LabelledCall Op
   pub opened : (w.front client).open_call ≡ Some call
   pub is : call.cid ≡ cid
-  pub next_is : next ≡ takes_reply w client names
+  pub answered : Option Cid
+  pub next_is : next ≡ takes_reply w client names answered
 
 module _ {Value Op : Type 0} (m : Meaning Value Op) (config : Config) (w : Facts Op) where
   -- the lines of a delivery, and the facts after it
@@ -65,18 +66,18 @@ module _ {Value Op : Type 0} (m : Meaning Value Op) (config : Config) (w : Facts
   got_stale : (g cid : Cid) → Got g ≡ Stale cid → ⊥
   got_stale g cid e = cc
 
-  by_test : (client : ℕ) (cid : Cid) (names : SpotSet) (x : SentMessage Op)
-      → got_read w x.to x.what ≡ takes_reply w client names → (o : Option (LabelledCall Op))
+  by_test : (client : ℕ) (cid : Cid) (names : SpotSet) (answered : Option Cid) (x : SentMessage Op)
+      → got_read w x.to x.what ≡ takes_reply w client names answered → (o : Option (LabelledCall Op))
       → (w.front client).open_call ≡ o → (g : Cid) → IsAmong (Got g) (reply_line o cid ∷ [])
       → IsTaken w client cid names (lines_read m config (came_in (Some x)) w (reply_line o cid ∷ []))
-  by_test client cid names x is None at g (inr none) = absurd none
-  by_test client cid names x is None at g (inl e) = absurd (got_stale g cid e)
-  by_test client cid names x is (Some call) at g (inr none) = absurd none
-  by_test client cid names x is (Some call) at g (inl e) = go (same_cid call.cid cid) refl e
+  by_test client cid names answered x is None at g (inr none) = absurd none
+  by_test client cid names answered x is None at g (inl e) = absurd (got_stale g cid e)
+  by_test client cid names answered x is (Some call) at g (inr none) = absurd none
+  by_test client cid names answered x is (Some call) at g (inl e) = go (same_cid call.cid cid) refl e
     where
       go : (t : Bool) → same_cid call.cid cid ≡ t → Got g ≡ cond t (Got cid) (Stale cid)
           → IsTaken w client cid names (lines_read m config (came_in (Some x)) w (cond t (Got cid) (Stale cid) ∷ []))
-      go true test e = record { call = call; opened = at; is = same_cid-is call.cid cid test; next_is = is }
+      go true test e = record { call = call; opened = at; is = same_cid-is call.cid cid test; answered = answered; next_is = is }
       go false test e = absurd (got_stale g cid e)
 
   -- where `got` is among the lines, the open call takes the reply
@@ -87,18 +88,19 @@ module _ {Value Op : Type 0} (m : Meaning Value Op) (config : Config) (w : Facts
       (facts_by n (Some (record { number = number; from = from; to = Client client; what = what })))
   by_reply n number client from cid names (UpdateCopy call time) reply g got = absurd reply
   by_reply n number client from cid names (QueryCopy call) reply g got = absurd reply
+  by_reply n number client from cid names (AckCopy other time) reply g got = absurd reply
   by_reply n number client from cid names (GossipOf x) reply g got = absurd reply
   by_reply n number client from cid names Blank reply g got = absurd reply
   by_reply n number client from cid names (DoneReply other x) reply g got =
       let sent : SentMessage Op =
       record { number = number; from = from; to = Client client; what = DoneReply other x } in
       subst₂ (λ c y. IsTaken w client c y (facts_by n (Some sent))) reply.0 reply.1
-      (by_test client other x sent refl (w.front client).open_call refl g got)
+      (by_test client other x (Some other) sent refl (w.front client).open_call refl g got)
   by_reply n number client from cid names (AnswerReply other x) reply g got =
       let sent : SentMessage Op =
       record { number = number; from = from; to = Client client; what = AnswerReply other x } in
       subst₂ (λ c y. IsTaken w client c y (facts_by n (Some sent))) reply.0 reply.1
-      (by_test client other x sent refl (w.front client).open_call refl g got)
+      (by_test client other x (w.front client).answered sent refl (w.front client).open_call refl g got)
 
   -- a step takes a reply that was sent
   pub record HasTaken (step : Step Op) (client : ℕ) (cid : Cid) (names : SpotSet) (x : SentMessage Op) : Type 0 where
@@ -118,6 +120,9 @@ module _ {Value Op : Type 0} (m : Meaning Value Op) (config : Config) (w : Facts
       by_event : (event : Event Op) → step.event ≡ event → delivery_of w event ≡ Some x
           → HasTaken step client cid names x
       by_event (Call f i reading op) at comes = absurd (none_some comes)
+      by_event (Resend f i reading) at comes = absurd (none_some comes)
+      by_event (AckEvent f i reading) at comes = absurd (none_some comes)
+      by_event (Tick i reading) at comes = absurd (none_some comes)
       by_event (GossipEvent i j) at comes = absurd (none_some comes)
       by_event (Show i) at comes = absurd (none_some comes)
       by_event (Deliver n) at comes =
@@ -132,7 +137,7 @@ module _ {Value Op : Type 0} (m : Meaning Value Op) (config : Config) (w : Facts
           → IsTaken w client cid names (facts_by n (turned to)))
           (sym to) (by_reply n x.number client x.from cid names x.what is g) (subst (IsAmong (Got g)) lines got) in
           record {
-            taken = record { call = done.call; opened = done.opened; is = done.is; next_is = next ∙ done.next_is };
+            taken = record { call = done.call; opened = done.opened; is = done.is; answered = done.answered; next_is = next ∙ done.next_is };
             among = (find-some (λ y. y.number == n) w.messages x comes).0;
             number = n;
             found = comes;
@@ -232,7 +237,7 @@ started {Op} client told w closed h =
 module _ {Value Op : Type 0} (m : Meaning Value Op) {e : Encoding Value} (kind_of : Op → Kind) (lawful : Lawful m e kind_of) (config : Config)
     (w : Facts Op) (v : RunState Value Op) (p : IsPoint m config w v) where
   abbrev Same : SentMessage Op → Posted Op → Type 0
-  Same x y = SameMessage m config w.accepted w.received p.same.issued (calls_in w) x y
+  Same x y = SameMessage m config w.accepted w.acks w.received p.same.issued (calls_in w) x y
 
   -- a reply stands for a set of acceptances
   reply-set : (n : ℕ) (x : SentMessage Op) → find (λ y. y.number == n) w.messages ≡ Some x
@@ -243,10 +248,11 @@ module _ {Value Op : Type 0} (m : Meaning Value Op) {e : Encoding Value} (kind_o
       (subst (λ o. SameOption Same o (message_at v.posted n)) found (p.same.shared.messages n))
     where
       by_what : (what : Carried Op) (message : Message Op)
-          → SameCarried m config w.accepted w.received p.same.issued (calls_in w) what message
+          → SameCarried m config w.accepted w.acks w.received p.same.issued (calls_in w) what message
           → IsReply cid names what → IsSetOf w.accepted names
       by_what what message (same_update c d t time call times by update) is = absurd is
       by_what what message (same_query c d call by) is = absurd is
+      by_what what message (same_ack c other t time cids times client) is = absurd is
       by_what what message (same_done c other x at stamp cids named set done) is = subst (IsSetOf w.accepted) is.1 set
       by_what what message (same_answer c other x text stamp cids named set) is = subst (IsSetOf w.accepted) is.1 set
       by_what what message (same_gossip x g s) is = absurd is

@@ -6,7 +6,7 @@ use Rattle.lr_base.specs.Kinds.{is_query, has_rules}
 use Rattle.lr_base.specs.Meaning.{Encoding, Lawful, Meaning}
 use Rattle.lr_base.specs.Orders.{IsAmong}
 use Rattle.lr_base.specs.declared.events.Event.{Event}
-use Rattle.lr_base.specs.declared.events.Event.TheVariants.{Call, Deliver, Gossip as GossipEvent, Show}
+use Rattle.lr_base.specs.declared.events.Event.TheVariants.{Call, Resend, Ack as AckEvent, Deliver, Tick, Gossip as GossipEvent, Show}
 use Rattle.lr_base.specs.declared.events.Outcome.{Outcome}
 use Rattle.lr_base.specs.declared.events.Outcome.TheVariants.{Send, Got, Stale}
 use Rattle.lr_base.specs.declared.events.Sent.TheVariants.{Answer, Done, Query, Update}
@@ -20,18 +20,19 @@ use Rattle.lr_base.specs.declared.names.Spot.{Spot}
 use Rattle.lr_graph.specs.After.{accepts, after, causes_of, delivery_of, lines_read, next_call, step_ended, stepping, Handling, handling}
 use Rattle.lr_graph.specs.Central.{facts_after}
 use Rattle.lr_graph.specs.Closed.{Each, IsDoneAt}
-use Rattle.lr_graph.specs.Graph.{Acceptance, Carried, Facts, LabelledCall, SentMessage, UpdateCopy, QueryCopy}
+use Rattle.lr_graph.specs.Graph.{Acceptance, Carried, Facts, LabelledCall, SentMessage, UpdateCopy, QueryCopy, AckCopy}
 use Rattle.lr_graph.specs.Graph.{DoneReply, AnswerReply, GossipOf, Blank, below_of, first_facts, is_within, kept_spot}
-use Rattle.lr_graph.specs.Graph.{made, ready, value}
-use Rattle.lr_graph.specs.Legal.{IsLegal, accept_lines, answer_line, answers, answers_at, call_lines, delivery_lines, copy_lines}
-use Rattle.lr_graph.specs.Legal.{done_line, message_lines, next_number, outcomes_of, own_lines, query_lines}
-use Rattle.lr_graph.specs.Legal.{reply_line, taken_at, update_lines}
+use Rattle.lr_graph.specs.Graph.{ready, value}
+use Rattle.lr_graph.specs.Legal.{IsLegal, accept_lines, ack_lines, acknowledge_lines, answer_line, answers, answers_at, call_lines, delivery_lines, copy_lines}
+use Rattle.lr_graph.specs.Legal.{done_line, message_lines, next_number, next_spot, outcomes_of, own_lines, query_lines}
+use Rattle.lr_graph.specs.Legal.{copy_line, reply_line, resend_lines, taken_at, update_lines}
 use Rattle.lr_graph.specs.Promises.{IsReadAfter, Takes, facts_of}
 use Rattle.lr_graph.specs.Runs.{RunState}
 use Rattle.lr_graph.specs.Sets.{SpotSet, only, ◌∪◌}
+use Rattle.lr_graph.specs.Timed.{WasSent}
 use Rattle.lr_graph.proofs.Lists.Members.{among-right, each-append, each-at, each-map, find-some}
 use Rattle.lr_graph.proofs.Lists.Tests.{same_spot-self}
-use Rattle.lr_graph.proofs.Promised.Changes.{Keeps, WasSent, found-among}
+use Rattle.lr_graph.proofs.Promised.Changes.{Keeps, found-among}
 use Rattle.lr_graph.proofs.Promised.Points.{IsPoint, any-point, facts-parts, fresh, later-point}
 use Rattle.lr_graph.proofs.Promised.Points.{legal-parts, step-point}
 use Rattle.lr_graph.proofs.Promised.Walk.{after-parts, answers-send, own-next, own_read, sent-there}
@@ -137,19 +138,30 @@ module _ {Value Op : Type 0} (m : Meaning Value Op) where
         by_test true = (tt, tt)
         by_test false = (tt, tt)
 
+    copy-said : (w : Facts Op) (f replica clock : ℕ) (call : LabelledCall Op)
+        → Each (IsSaid l r messages) (copy_line m w f replica clock call ∷ [])
+    copy-said w f replica clock call = by_kind (is_query (m.kind call.op))
+      where
+        by_kind : (t : Bool) → Each (IsSaid l r messages)
+            (Send (next_number w) (Client f) (Replica replica) (cond t (Query call.cid) (Update call.cid clock)) ∷ [])
+        by_kind true = (tt, tt)
+        by_kind false = (tt, tt)
+
     call-said : (w : Facts Op) (f replica clock : ℕ) (op : Op) (o : Option (LabelledCall Op)) (worn : Bool)
         → Each (IsSaid l r messages) (call_lines m w f replica clock op o worn)
     call-said w f replica clock op (Some call) worn = (tt, tt)
     call-said w f replica clock op None true = (tt, tt)
-    call-said w f replica clock op None false = by_kind (is_query (m.kind op))
-      where
-        cid : Cid
-        cid = (next_call f (w.front f) op).cid
+    call-said w f replica clock op None false = copy-said w f replica clock (next_call f (w.front f) op)
 
-        by_kind : (t : Bool) → Each (IsSaid l r messages)
-            (Send (next_number w) (Client f) (Replica replica) (cond t (Query cid) (Update cid clock)) ∷ [])
-        by_kind true = (tt, tt)
-        by_kind false = (tt, tt)
+    resend-said : (w : Facts Op) (f replica clock : ℕ) (o : Option (LabelledCall Op))
+        → Each (IsSaid l r messages) (resend_lines m w f replica clock o)
+    resend-said w f replica clock None = (tt, tt)
+    resend-said w f replica clock (Some call) = copy-said w f replica clock call
+
+    acknowledge-said : (w : Facts Op) (f replica clock : ℕ) (o : Option Cid)
+        → Each (IsSaid l r messages) (acknowledge_lines w f replica clock o)
+    acknowledge-said w f replica clock None = (tt, tt)
+    acknowledge-said w f replica clock (Some cid) = (tt, tt)
 
   -- ---- the lines of the event itself, behind which more may be sent
 
@@ -192,7 +204,7 @@ module _ {Value Op : Type 0} (m : Meaning Value Op) where
       accept-said j time call false left = (tt, tt)
       accept-said j time call true false = (tt, tt)
       accept-said j time call true true =
-          let spot : Spot = record { place = j; number = suc (made w.accepted j) } in
+          let spot = next_spot w j in
           let u = accepts w j spot call in
           let a : Acceptance Op =
           record { spot = spot; cid = call.cid; op = call.op; below = causes_of call ∪ only spot } in
@@ -212,26 +224,38 @@ module _ {Value Op : Type 0} (m : Meaning Value Op) where
           → Said (came to what (message_lines m config w to what)) (message_lines m config w to what)
       message-said v same (Replica j) (UpdateCopy call time) there asked = by_rules (has_rules (m.kind call.op))
         where
-          by_spot : (o : Option Spot) → taken_at config w j call.cid (kept_spot (w.kept j) call.cid) ≡ o
-              → Said (came (Replica j) (UpdateCopy call time) (update_lines config w j call.cid o))
-              (update_lines config w j call.cid o)
-          by_spot None e = accept-said j time call _ _
-          by_spot (Some spot) e =
+          by_spot : (late : Bool) (o noted : Option Spot)
+              → taken_at config w j call.cid (kept_spot (w.kept j) call.cid) ≡ o
+              → Said (came (Replica j) (UpdateCopy call time) (update_lines config w j call.cid time late o noted))
+              (update_lines config w j call.cid time late o noted)
+          by_spot true o noted e = (tt, tt)
+          by_spot false None None e = accept-said j time call _ _
+          by_spot false None (Some spot) e = (tt, tt)
+          by_spot false (Some spot) noted e =
               let a = taken-again m config w v same j there call.cid spot e in
               let below = ap (below_of w.accepted) (sym a.3) ∙ below_of-is w.accepted same.shared.sound.apart a.0 a.1 in
               (tt, (done-said w.accepted w.received j call.cid spot a.0 a.1 a.2 a.3 below, tt))
 
-          by_rules : (rules : Bool) → Said (came (Replica j) (UpdateCopy call time) (copy_lines config w j call rules))
-              (copy_lines config w j call rules)
+          by_rules : (rules : Bool) → Said (came (Replica j) (UpdateCopy call time) (copy_lines config w j call time rules))
+              (copy_lines config w j call time rules)
           by_rules false = tt
-          by_rules true = by_spot (taken_at config w j call.cid (kept_spot (w.kept j) call.cid)) refl
+          by_rules true = by_spot _ (taken_at config w j call.cid (kept_spot (w.kept j) call.cid)) _ refl
       message-said v same (Replica j) (QueryCopy call) there asked = query-said j call _ _ asked
+      message-said v same (Replica j) (AckCopy c time) there asked = by_spot _ _ _
+        where
+          by_spot : (noted : Option Spot) (room left : Bool)
+              → Said (came (Replica j) (AckCopy c time) (ack_lines w j c noted room left)) (ack_lines w j c noted room left)
+          by_spot (Some spot) room left = (tt, tt)
+          by_spot None false left = (tt, tt)
+          by_spot None true false = (tt, tt)
+          by_spot None true true = (tt, tt)
       message-said v same (Replica j) (DoneReply c names) there asked = tt
       message-said v same (Replica j) (AnswerReply c names) there asked = tt
       message-said v same (Replica j) (GossipOf names) there asked = (tt, tt)
       message-said v same (Replica j) Blank there asked = tt
       message-said v same (Client f) (UpdateCopy call time) there asked = tt
       message-said v same (Client f) (QueryCopy call) there asked = tt
+      message-said v same (Client f) (AckCopy c time) there asked = tt
       message-said v same (Client f) (DoneReply c names) there asked = reply-said _ _ _ (w.front f).open_call c
       message-said v same (Client f) (AnswerReply c names) there asked = reply-said _ _ _ (w.front f).open_call c
       message-said v same (Client f) (GossipOf names) there asked = tt
@@ -241,6 +265,11 @@ module _ {Value Op : Type 0} (m : Meaning Value Op) where
         → Said (own_read m config w event) (own_lines m config w event)
     own-said v same (Call f replica reading op) =
         call-said _ _ _ w f replica _ op (w.front f).open_call ((w.front f).calls == 2 ^ 62)
+    own-said v same (Resend f replica reading) =
+        resend-said _ _ _ w f replica _ (w.front f).open_call
+    own-said v same (AckEvent f replica reading) =
+        acknowledge-said _ _ _ w f replica _ (w.front f).answered
+    own-said v same (Tick i reading) = (tt, tt)
     own-said v same (GossipEvent from to) = (tt, tt)
     own-said v same (Show j) = (tt, tt)
     own-said v same (Deliver number) = by_found (find (λ x. x.number == number) w.messages) refl

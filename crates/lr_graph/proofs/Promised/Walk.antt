@@ -10,10 +10,10 @@ use Rattle.lr_base.specs.Orders.{IsAmong}
 use Rattle.lr_base.specs.Rules.{known_of}
 use Rattle.lr_base.specs.declared.acts.Posted.{Posted}
 use Rattle.lr_base.specs.declared.events.Event.{Event}
-use Rattle.lr_base.specs.declared.events.Event.TheVariants.{Call, Deliver, Gossip as GossipEvent, Show}
+use Rattle.lr_base.specs.declared.events.Event.TheVariants.{Call, Resend, Ack as AckEvent, Deliver, Tick, Gossip as GossipEvent, Show}
 use Rattle.lr_base.specs.declared.events.Outcome.{Outcome}
 use Rattle.lr_base.specs.declared.events.Outcome.TheVariants.{Got, Send, Stale}
-use Rattle.lr_base.specs.declared.events.Sent.TheVariants.{Update, Query, Done, Answer, Gossip}
+use Rattle.lr_base.specs.declared.events.Sent.TheVariants.{Update, Query, Ack, Done, Answer, Gossip}
 use Rattle.lr_base.specs.declared.events.Step.{Step}
 use Rattle.lr_base.specs.declared.messages.Known.{Known}
 use Rattle.lr_base.specs.declared.names.Actor.{Actor}
@@ -21,23 +21,25 @@ use Rattle.lr_base.specs.declared.names.Actor.TheVariants.{Client, Replica}
 use Rattle.lr_base.specs.declared.names.Cid.{Cid}
 use Rattle.lr_base.specs.declared.names.Config.{Config}
 use Rattle.lr_base.specs.declared.names.Spot.{Spot}
+use Rattle.lr_graph.specs.After.{clock_read, with_front}
 use Rattle.lr_graph.specs.After.{accepts, after, call_read, end_read, event_read, line_read, lines_read, Handling, handling}
-use Rattle.lr_graph.specs.After.{got_read, step_ended, stepping, takes_reply}
+use Rattle.lr_graph.specs.After.{got_read, replied, step_ended, stepping, takes_reply}
 use Rattle.lr_graph.specs.Closed.{Each, HasApartSpots}
 use Rattle.lr_graph.specs.Graph.{Acceptance, Carried, Facts, FrontFacts, LabelledCall, SentMessage}
-use Rattle.lr_graph.specs.Graph.{UpdateCopy, QueryCopy, DoneReply, AnswerReply, GossipOf, Blank}
-use Rattle.lr_graph.specs.Graph.{below_of, is_within, kept_spot, made, ready}
-use Rattle.lr_graph.specs.Legal.{accept_lines, answer_line, answers, answers_at, call_lines, delivery_lines, logged, copy_lines}
-use Rattle.lr_graph.specs.Legal.{message_lines, next_number, outcomes_of, own_lines, query_lines, reply_line}
+use Rattle.lr_graph.specs.Graph.{UpdateCopy, QueryCopy, AckCopy, DoneReply, AnswerReply, GossipOf, Blank}
+use Rattle.lr_graph.specs.Graph.{below_of, is_within, kept_spot, ready}
+use Rattle.lr_graph.specs.Legal.{accept_lines, ack_lines, acknowledge_lines, answer_line, answers, answers_at, call_lines, copy_line, delivery_lines, logged, copy_lines}
+use Rattle.lr_graph.specs.Legal.{message_lines, next_number, next_spot, outcomes_of, own_lines, query_lines, reply_line, resend_lines}
 use Rattle.lr_graph.specs.Legal.{taken_at, update_lines}
 use Rattle.lr_graph.specs.Runs.{RunState, message_at}
 use Rattle.lr_graph.specs.Sets.{SpotSet, put_at, only, ◌∪◌}
+use Rattle.lr_graph.specs.Timed.{WasSent}
 use Rattle.lr_graph.proofs.Lists.Members.{each-append, each-at, each-map, filter-each, find-some}
 use Rattle.lr_graph.proofs.Lists.Tests.{or-left, same_spot-self}
-use Rattle.lr_graph.proofs.Promised.Changes.{IsFine, IsHeldFine, IsNext, Keeps, Rule, WasSent, opened-more}
+use Rattle.lr_graph.proofs.Promised.Changes.{IsFine, IsHeldFine, IsNext, Keeps, Rule, opened-more}
 use Rattle.lr_graph.proofs.Promised.Changes.{query-fine, update-fine}
 use Rattle.lr_graph.proofs.Promised.Changes.{next-accepted, next-front, next-holding, next-more, next-same, next-sent}
-use Rattle.lr_graph.proofs.Promised.Changes.{next-taken}
+use Rattle.lr_graph.proofs.Promised.Changes.{next-clock, next-noted, next-taken}
 use Rattle.lr_graph.proofs.Related.Relation.{IsSame, IsThere, SameMessage, SameOption, calls_in}
 use Rattle.lr_graph.proofs.Related.Ties.{IsTableOf}
 use Rattle.lr_graph.proofs.Replicas.Own.{below_of-is}
@@ -146,7 +148,7 @@ module _ {Value Op : Type 0} (m : Meaning Value Op) (config : Config) (w : Facts
       there (message_at v.posted n) (subst (λ o. SameOption Same o (message_at v.posted n)) e (same.shared.messages n))
     where
       Same : SentMessage Op → Posted Op → Type 0
-      Same x p = SameMessage m config w.accepted w.received same.issued (calls_in w) x p
+      Same x p = SameMessage m config w.accepted w.acks w.received same.issued (calls_in w) x p
 
       there : (p : Option (Posted Op)) → SameOption Same (Some x) p → IsThere config x.to
       there None s = absurd s
@@ -169,13 +171,39 @@ module _ {Value Op : Type 0} (m : Meaning Value Op) (config : Config) (R : Rule)
   IsOpened w = (n : ℕ → ℕ) (client : ℕ) (cid : Cid) → cid.client ≡ client → cid.seq ≡ suc (calls_in w client)
       → n client ≡ suc (calls_in w client) → R.of n cid (w.front client).label × R.of_open client cid
 
+  -- ---- a front end sends again, or acknowledges
+
+  copy-next : (w : Facts Op) (client replica clock : ℕ) (call : LabelledCall Op) → Keeps R w
+      → Next None w (lines_read m config (alone (Some (Client client))) w (copy_line m w client replica clock call ∷ []))
+  copy-next w client replica clock call k = sent (is_query (m.kind call.op))
+    where
+      sent : (t : Bool) → Next None w (line_read m config (alone (Some (Client client))) w
+          (Send (next_number w) (Client client) (Replica replica) (cond t (Query call.cid) (Update call.cid clock))))
+      sent true = next-sent R None w k (Client client) (Replica replica) (Query call.cid)
+          (query-fine (R.of (calls_in w)) R.of_open w.accepted call.cid.client (w.front call.cid.client).open_call
+          (k.opened call.cid.client))
+      sent false = next-sent R None w k (Client client) (Replica replica) (Update call.cid clock)
+          (update-fine (R.of (calls_in w)) R.of_open w.accepted call.cid.client clock
+          (w.front call.cid.client).open_call (k.opened call.cid.client))
+
+  resend-next : (w : Facts Op) (client replica clock : ℕ) (o : Option (LabelledCall Op)) → Keeps R w
+      → Next None w (lines_read m config (alone (Some (Client client))) w (resend_lines m w client replica clock o))
+  resend-next w client replica clock None k = next-same R None w k
+  resend-next w client replica clock (Some call) k = copy-next w client replica clock call k
+
+  acknowledge-next : (w : Facts Op) (client replica clock : ℕ) (o : Option Cid) → Keeps R w
+      → Next None w (lines_read m config (alone (Some (Client client))) w (acknowledge_lines w client replica clock o))
+  acknowledge-next w client replica clock None k = next-same R None w k
+  acknowledge-next w client replica clock (Some cid) k =
+      next-sent R None w k (Client client) (Replica replica) (Ack cid clock) tt
+
   module _ (w : Facts Op) (h : Keeps R w) where
     -- ---- a message comes
 
-    again-next : (i : ℕ) (x : SentMessage Op) (call : LabelledCall Op) (spot : Spot) → HasApartSpots w.accepted
+    again-next : (i : ℕ) (x : SentMessage Op) (call : LabelledCall Op) (time : ℕ) (spot : Spot) (noted : Option Spot) → HasApartSpots w.accepted
         → IsDone w.accepted call.cid spot
-        → Next (Some i) w (lines_read m config (came_in (Some x)) w (update_lines config w i call.cid (Some spot)))
-    again-next i x call spot apart a =
+        → Next (Some i) w (lines_read m config (came_in (Some x)) w (update_lines config w i call.cid time false (Some spot) noted))
+    again-next i x call time spot noted apart a =
         next-sent R (Some i) w h (Replica i) (Client call.cid.client) (Done call.cid spot)
         (a.0, a.1, a.2, sym (ap (below_of w.accepted) (sym a.3) ∙ below_of-is w.accepted apart a.0 a.1))
 
@@ -188,7 +216,7 @@ module _ {Value Op : Type 0} (m : Meaning Value Op) (config : Config) (R : Rule)
       accepted-next time false left = next-same R (Some i) w h
       accepted-next time true false = next-same R (Some i) w h
       accepted-next time true true =
-          let spot : Spot = record { place = i; number = suc (made w.accepted i) } in
+          let spot = next_spot w i in
           let a : Acceptance Op =
           record { spot = spot; cid = call.cid; op = call.op; below = call.label ∪ only spot } in
           next-more R (Some i) w (accepts w i spot call) _ (next-accepted R i w h spot call fine) (λ k.
@@ -207,14 +235,14 @@ module _ {Value Op : Type 0} (m : Meaning Value Op) (config : Config) (R : Rule)
       query-next false false answered sent e = next-same R (Some i) w h
 
     -- a front end takes the reply, or it is stale
-    reply-next : (client : ℕ) (cid : Cid) (names : SpotSet) (o : Option (LabelledCall Op)) (x : SentMessage Op)
-        → got_read w x.to x.what ≡ takes_reply w client names
+    reply-next : (client : ℕ) (cid : Cid) (names : SpotSet) (answered : Option Cid) (o : Option (LabelledCall Op))
+        → (x : SentMessage Op) → got_read w x.to x.what ≡ takes_reply w client names answered
         → Next None w (lines_read m config (came_in (Some x)) w (reply_line o cid ∷ []))
-    reply-next client cid names None x is = next-same R None w h
-    reply-next client cid names (Some call) x is = by_test (same_cid call.cid cid)
+    reply-next client cid names answered None x is = next-same R None w h
+    reply-next client cid names answered (Some call) x is = by_test (same_cid call.cid cid)
       where
         taken : FrontFacts Op
-        taken = record (w.front client) { label = (w.front client).label ∪ names; open_call = None }
+        taken = replied names answered (w.front client)
 
         by_test : (t : Bool) → Next None w (lines_read m config (came_in (Some x)) w (cond t (Got cid) (Stale cid) ∷ []))
         by_test false = next-same R None w h
@@ -230,33 +258,46 @@ module _ {Value Op : Type 0} (m : Meaning Value Op) (config : Config) (R : Rule)
           (message_lines m config w to what))
       message-next number from (Replica i) (UpdateCopy call time) here fine sent = by_rules (has_rules (m.kind call.op))
         where
-          by_spot : (o : Option Spot) → taken_at config w i call.cid (kept_spot (w.kept i) call.cid) ≡ o
+          by_spot : (late : Bool) (o noted : Option Spot)
+              → taken_at config w i call.cid (kept_spot (w.kept i) call.cid) ≡ o
               → Next (Some i) w
               (lines_read m config (came_in (Some (message i number from call fine (UpdateCopy call time)))) w
-              (update_lines config w i call.cid o))
-          by_spot None e = accepted-next i number from call fine time _ _
-          by_spot (Some spot) e =
-              again-next i (message i number from call fine (UpdateCopy call time)) call spot same.shared.sound.apart
-              (taken-again m config w v same i here call.cid spot e)
+              (update_lines config w i call.cid time late o noted))
+          by_spot true o noted e = next-same R (Some i) w h
+          by_spot false None None e = accepted-next i number from call fine time _ _
+          by_spot false None (Some spot) e = next-same R (Some i) w h
+          by_spot false (Some spot) noted e =
+              again-next i (message i number from call fine (UpdateCopy call time)) call time spot noted
+              same.shared.sound.apart (taken-again m config w v same i here call.cid spot e)
 
           by_rules : (rules : Bool) → Next (Some i) w
               (lines_read m config (came_in (Some (message i number from call fine (UpdateCopy call time)))) w
-              (copy_lines config w i call rules))
+              (copy_lines config w i call time rules))
           by_rules false = next-same R (Some i) w h
-          by_rules true = by_spot (taken_at config w i call.cid (kept_spot (w.kept i) call.cid)) refl
+          by_rules true = by_spot _ (taken_at config w i call.cid (kept_spot (w.kept i) call.cid)) _ refl
       message-next number from (Replica i) (QueryCopy call) here fine sent =
           query-next i number from call fine _ _ answered sent refl
+      message-next number from (Replica i) (AckCopy cid time) here fine sent = by_spot _ _ _
+        where
+          by_spot : (noted : Option Spot) (room left : Bool) → Next (Some i) w
+              (lines_read m config (came_in (Some (record { number = number; from = from; to = Replica i; what = AckCopy cid time }))) w
+              (ack_lines w i cid noted room left))
+          by_spot (Some spot) room left = next-same R (Some i) w h
+          by_spot None false left = next-same R (Some i) w h
+          by_spot None true false = next-same R (Some i) w h
+          by_spot None true true = next-noted R i w h (next_spot w i) cid time
       message-next number from (Replica i) (DoneReply cid names) here fine sent = next-same R (Some i) w h
       message-next number from (Replica i) (AnswerReply cid names) here fine sent = next-same R (Some i) w h
       message-next number from (Replica i) (GossipOf names) here fine sent = next-taken R i w h names
       message-next number from (Replica i) Blank here fine sent = next-same R (Some i) w h
       message-next number from (Client c) (UpdateCopy call time) here fine sent = next-same R None w h
       message-next number from (Client c) (QueryCopy call) here fine sent = next-same R None w h
+      message-next number from (Client c) (AckCopy cid time) here fine sent = next-same R None w h
       message-next number from (Client c) (DoneReply cid names) here fine sent =
-          reply-next c cid names (w.front c).open_call
+          reply-next c cid names (Some cid) (w.front c).open_call
           (record { number = number; from = from; to = Client c; what = DoneReply cid names }) refl
       message-next number from (Client c) (AnswerReply cid names) here fine sent =
-          reply-next c cid names (w.front c).open_call
+          reply-next c cid names (w.front c).answered (w.front c).open_call
           (record { number = number; from = from; to = Client c; what = AnswerReply cid names }) refl
       message-next number from (Client c) (GossipOf names) here fine sent = next-same R None w h
       message-next number from (Client c) Blank here fine sent = next-same R None w h
@@ -317,6 +358,15 @@ module _ {Value Op : Type 0} (m : Meaning Value Op) (config : Config) (R : Rule)
         → Next (stepping w event) w (own_read m config w event)
     own-next v same answered opens (Call client replica reading op) =
         call-next opens client replica reading _ op (w.front client).open_call ((w.front client).calls == 2 ^ 62)
+    own-next v same answered opens (Resend client replica reading) =
+        let now = with_front w client (clock_read reading (w.front client)) in
+        next-more R None w now _ (clock-next client (max (w.front client).clock reading)) (λ k.
+        resend-next now client replica (max (w.front client).clock reading) (w.front client).open_call k)
+    own-next v same answered opens (AckEvent client replica reading) =
+        let now = with_front w client (clock_read reading (w.front client)) in
+        next-more R None w now _ (clock-next client (max (w.front client).clock reading)) (λ k.
+        acknowledge-next now client replica (max (w.front client).clock reading) (w.front client).answered k)
+    own-next v same answered opens (Tick i reading) = next-clock R (Some i) w h i (max (w.clock i) reading)
     own-next v same answered opens (Deliver n) = delivery-next v same answered n _ refl
     own-next v same answered opens (GossipEvent from to) = next-sent R (Some from) w h (Replica from)
         (Replica to) Gossip tt

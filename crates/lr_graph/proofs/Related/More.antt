@@ -1,21 +1,27 @@
 -- What goes on to hold where one acceptance more was made.
-use Rattle.std.proofs.Common.{◌≡◌, ℕ, Bool, true, false, cond, not, ◌&&◌, ◌||◌, inr, List, [], ◌∷◌, refl, sym, ap, ◌∙◌, subst, true≢false}
+use Rattle.std.proofs.Common.{◌≡◌, ℕ, Bool, true, false, cond, not, ◌&&◌, ◌||◌, inr, List, [], ◌∷◌, Option, Some, None, refl, sym, ap, ◌∙◌, subst, true≢false}
 use Rattle.std.specs.List.{list_any}
 use Rattle.lr_base.specs.Ascending.{same_cid}
 use Rattle.lr_base.specs.Meaning.{Meaning}
 use Rattle.lr_base.specs.Rules.{CausalState}
+use Rattle.lr_base.specs.declared.acts.Posted.{Posted}
 use Rattle.lr_base.specs.declared.messages.Call.{Call}
+use Rattle.lr_base.specs.declared.messages.Gossip.{Gossip}
 use Rattle.lr_base.specs.declared.messages.Known.{Known}
+use Rattle.lr_base.specs.declared.messages.LogAck.{LogAck}
 use Rattle.lr_base.specs.declared.messages.LogUpdate.{LogUpdate}
+use Rattle.lr_base.specs.declared.messages.Message.{Message}
 use Rattle.lr_base.specs.declared.names.Cid.{Cid}
 use Rattle.lr_base.specs.declared.names.Config.{Config}
 use Rattle.lr_base.specs.declared.names.Spot.{Spot}
-use Rattle.lr_graph.specs.Closed.{Each, IsAccepted, IsSetOf, IsSound}
-use Rattle.lr_graph.specs.Graph.{Acceptance, Kept, LabelledCall, has_call, is_within, ready, value}
+use Rattle.lr_graph.specs.Closed.{Each, IsAccepted, IsDoneAt, IsSetOf, IsSound}
+use Rattle.lr_graph.specs.Graph.{Acceptance, Carried, Kept, LabelledCall, SentMessage, has_call, is_within, ready, value}
 use Rattle.lr_graph.specs.Sets.{SpotSet, same_spot}
 use Rattle.lr_graph.proofs.Lists.Members.{each-at, each-from, each-map}
 use Rattle.lr_graph.proofs.Sets.ReadySets.{below-accepted, ready-holds}
-use Rattle.lr_graph.proofs.Related.Relation.{IsReplicaAt, SameCall, SameHeld, SameList}
+use Rattle.lr_graph.proofs.Related.Relation.{IsIssued, IsReplicaAt, SameCall, SameCarried, SameGossip, SameHeld, SameList}
+use Rattle.lr_graph.proofs.Related.Relation.{SameMessage, SameOption, same_ack, same_answer, same_done, same_gossip}
+use Rattle.lr_graph.proofs.Related.Relation.{same_query, same_update}
 use Rattle.lr_graph.proofs.Lists.Tests.{never}
 use Rattle.lr_graph.proofs.Related.Ties.{HasApplied, IsLogOf, IsTableOf, StandsFor}
 
@@ -25,6 +31,35 @@ same-list R Q f [] [] h = tt
 same-list R Q f [] (y ∷ ys) h = h
 same-list R Q f (x ∷ xs) [] h = h
 same-list R Q f (x ∷ xs) (y ∷ ys) h = (f x y h.0, same-list R Q f xs ys h.1)
+
+-- a message is the same one on both sides still, where calls, sets, acceptances, what was issued and gossip are
+module _ {Value Op : Type 0} (m : Meaning Value Op) (config : Config) {l more : List (Acceptance Op)}
+    {acks new : List LogAck} {received next : ℕ → SpotSet} {issued given : Cid → Option (LabelledCall Op)}
+    {calls after : ℕ → ℕ} (call_more : (c : LabelledCall Op) (d : Call Op) → SameCall l c d → SameCall more c d)
+    (set_more : (x : SpotSet) → IsSetOf l x → IsSetOf more x)
+    (done_more : (cid : Cid) (spot : Spot) (x : SpotSet) → IsDoneAt l cid spot x → IsDoneAt more cid spot x)
+    (issued_more : (c : LabelledCall Op) → IsIssued config.clients issued calls c → IsIssued config.clients given after c)
+    (gossip_more : (x : SpotSet) (g : Gossip Op) → SameGossip config.replicas l acks received x g
+    → SameGossip config.replicas more new next x g) where
+  carried-more : (x : Carried Op) (p : Message Op) → SameCarried m config l acks received issued calls x p
+      → SameCarried m config more new next given after x p
+  carried-more x p (same_update c d t time call times by update) =
+      same_update c d t time (call_more c d call) times (issued_more c by) update
+  carried-more x p (same_query c d call by) = same_query c d (call_more c d call) (issued_more c by)
+  carried-more x p (same_ack cid other t time cids times client) = same_ack cid other t time cids times client
+  carried-more x p (same_done cid other names spot stamp cids named set done) =
+      same_done cid other names spot stamp cids named (set_more names set) (done_more cid spot names done)
+  carried-more x p (same_answer cid other names text stamp cids named set) =
+      same_answer cid other names text stamp cids named (set_more names set)
+  carried-more x p (same_gossip names g h) = same_gossip names g (gossip_more names g h)
+
+  pub message-more : (o : Option (SentMessage Op)) (p : Option (Posted Op))
+      → SameOption (SameMessage m config l acks received issued calls) o p
+      → SameOption (SameMessage m config more new next given after) o p
+  message-more None None h = tt
+  message-more (Some x) (Some p) h =
+      record { from = h.from; to = h.to; way = h.way; there = h.there; what = carried-more x.what p.message h.what }
+  message-more _ _ h = absurd h
 
 -- tests that agree on each element find alike
 any-alike : {A : Type 0} (p q : A → Bool) (xs : List A) → Each (λ x. p x ≡ q x) xs → list_any p xs ≡ list_any q xs

@@ -1,8 +1,6 @@
 -- How a run by the rules and the facts of its history belong together.
-use Rattle.std.proofs.Common.{◌≡◌, ◌<◌, ◌≤◌, ◌+◌, ◌==◌, ℕ, true, false, List, [], ◌∷◌, length, find, Option, Some, None}
+use Rattle.std.proofs.Common.{◌≡◌, ◌<◌, ◌≤◌, ◌+◌, ◌==◌, ◌++◌, ℕ, true, false, List, [], ◌∷◌, length, map, find, Option, Some, None}
 use Rattle.std.specs.List.{slice_get}
-use Rattle.std.specs.Option.{option_map}
-use Rattle.lr_base.specs.Ascending.{same_cid}
 use Rattle.lr_base.specs.Calls.{AreByCall}
 use Rattle.lr_base.specs.Fronts.{FrontState}
 use Rattle.lr_base.specs.Kinds.{IsUpdate, has_rules}
@@ -14,19 +12,21 @@ use Rattle.lr_base.specs.Stamps.{part}
 use Rattle.lr_base.specs.declared.acts.Posted.{Posted}
 use Rattle.lr_base.specs.declared.messages.Call.{Call}
 use Rattle.lr_base.specs.declared.messages.Gossip.{Gossip}
+use Rattle.lr_base.specs.declared.messages.LogAck.{LogAck}
 use Rattle.lr_base.specs.declared.messages.Message.{Message}
-use Rattle.lr_base.specs.declared.messages.Message.TheVariants.{Update, Query, Done, Answer, Gossip as GossipMessage}
+use Rattle.lr_base.specs.declared.messages.Message.TheVariants.{Update, Query, Ack, Done, Answer, Gossip as GossipMessage}
 use Rattle.lr_base.specs.declared.names.Actor.{Actor}
 use Rattle.lr_base.specs.declared.names.Actor.TheVariants.{Client, Replica}
 use Rattle.lr_base.specs.declared.names.Cid.{Cid}
 use Rattle.lr_base.specs.declared.names.Config.{Config}
 use Rattle.lr_base.specs.declared.names.Spot.{Spot}
-use Rattle.lr_graph.specs.Closed.{Each, IsAccepted, IsSetOf, IsSound, causes, IsDoneAt}
-use Rattle.lr_graph.specs.Graph.{Acceptance, AnswerReply, GossipOf, Carried, DoneReply, Facts, FrontFacts, Kept, LabelledCall, QueryCopy, SentMessage, UpdateCopy, ready}
+use Rattle.lr_graph.specs.Closed.{Each, IsSetOf, IsSound, causes, IsDoneAt}
+use Rattle.lr_graph.specs.Graph.{Acceptance, AckCopy, AnswerReply, GossipOf, Carried, DoneReply, Facts, FrontFacts, Kept, LabelledCall, QueryCopy, SentMessage, UpdateCopy, acks_of, item_spots, ready}
 use Rattle.lr_graph.specs.Legal.{logged}
 use Rattle.lr_graph.specs.Names.{IsCounted, Names}
 use Rattle.lr_graph.specs.Runs.{RunState, message_at}
 use Rattle.lr_graph.specs.Sets.{SpotSet}
+use Rattle.lr_graph.proofs.Logs.Items.{AreApart}
 use Rattle.lr_graph.proofs.Related.Ties.{HasApplied, IsLogOf}
 
 -- ---- one thing beside another
@@ -56,29 +56,36 @@ pub record IsIssued {Op : Type 0} (clients : ℕ) (issued : Cid → Option (Labe
   pub number : c.cid.seq ≤ calls c.cid.client
   pub client : c.cid.client < clients
 
--- gossip counts the acceptances that it names; its log has some of them, and the rest were received everywhere
-pub record SameGossip {Op : Type 0} (replicas : ℕ) (l : List (Acceptance Op)) (received : ℕ → SpotSet) (names : SpotSet) (g : Gossip Op) : Type 0 where
+-- the spots of these acceptances and acknowledgements
+abbrev pub spots_in : {Op : Type 0} → List (Acceptance Op) → List LogAck → List Spot
+spots_in l acks = map (λ a. a.spot) l ++ map (λ a. a.spot) acks
+
+-- gossip counts the items that it names; its log has some of the acceptances, and the rest were received everywhere; and
+-- it has all acknowledgements
+pub record SameGossip {Op : Type 0} (replicas : ℕ) (l : List (Acceptance Op)) (acks : List LogAck) (received : ℕ → SpotSet) (names : SpotSet) (g : Gossip Op) : Type 0 where
   pub logs : SpotSet
   pub counted : IsCounted names g.rep_ts
-  pub exist : (s : Spot) → names s ≡ true → IsAccepted l s
+  pub exist : (s : Spot) → names s ≡ true → IsAmong s (spots_in l acks)
   pub log : IsLogOf l logs g.updates
   pub within : (s : Spot) → logs s ≡ true → names s ≡ true
   pub elsewhere : (s : Spot) → names s ≡ true → logs s ≡ false → (j : ℕ) → j < replicas → received j s ≡ true
-  pub acks : g.acks ≡ []
+  pub acks_are : g.acks ≡ acks_of (λ a. names a.spot) acks
   pub parts : length g.rep_ts ≡ replicas + 1
 
 -- a message of the rules carries what this one of the graph does
-pub data SameCarried {Value Op : Type 0} (m : Meaning Value Op) (config : Config) (l : List (Acceptance Op)) (received : ℕ → SpotSet) (issued : Cid → Option (LabelledCall Op)) (calls : ℕ → ℕ) : Carried Op → Message Op → Type 0 where
-  same_update : (c : LabelledCall Op) (d : Call Op) (t time : ℕ) → SameCall l c d → t ≡ time → IsIssued config.clients issued calls c → IsUpdate (m.kind c.op) → SameCarried m config l received issued calls (UpdateCopy c t) (Update d time)
-  same_query : (c : LabelledCall Op) (d : Call Op) → SameCall l c d → IsIssued config.clients issued calls c → SameCarried m config l received issued calls (QueryCopy c) (Query d)
-  same_done : (cid other : Cid) (names : SpotSet) (spot : Spot) (stamp : List ℕ) → cid ≡ other → Names stamp names → IsSetOf l names → IsDoneAt l cid spot names → SameCarried m config l received issued calls (DoneReply cid names) (Done other spot stamp)
-  same_answer : (cid other : Cid) (names : SpotSet) (text stamp : List ℕ) → cid ≡ other → Names stamp names → IsSetOf l names → SameCarried m config l received issued calls (AnswerReply cid names) (Answer other text stamp)
-  same_gossip : (names : SpotSet) (g : Gossip Op) → SameGossip config.replicas l received names g → SameCarried m config l received issued calls (GossipOf names) (GossipMessage g)
+pub data SameCarried {Value Op : Type 0} (m : Meaning Value Op) (config : Config) (l : List (Acceptance Op)) (acks : List LogAck) (received : ℕ → SpotSet) (issued : Cid → Option (LabelledCall Op)) (calls : ℕ → ℕ) : Carried Op → Message Op → Type 0 where
+  same_update : (c : LabelledCall Op) (d : Call Op) (t time : ℕ) → SameCall l c d → t ≡ time → IsIssued config.clients issued calls c → IsUpdate (m.kind c.op) → SameCarried m config l acks received issued calls (UpdateCopy c t) (Update d time)
+  same_query : (c : LabelledCall Op) (d : Call Op) → SameCall l c d → IsIssued config.clients issued calls c → SameCarried m config l acks received issued calls (QueryCopy c) (Query d)
+  same_ack : (cid other : Cid) (t time : ℕ) → cid ≡ other → t ≡ time → cid.client < config.clients → SameCarried m config l acks received issued calls (AckCopy cid t) (Ack other time)
+  same_done : (cid other : Cid) (names : SpotSet) (spot : Spot) (stamp : List ℕ) → cid ≡ other → Names stamp names → IsSetOf l names → IsDoneAt l cid spot names → SameCarried m config l acks received issued calls (DoneReply cid names) (Done other spot stamp)
+  same_answer : (cid other : Cid) (names : SpotSet) (text stamp : List ℕ) → cid ≡ other → Names stamp names → IsSetOf l names → SameCarried m config l acks received issued calls (AnswerReply cid names) (Answer other text stamp)
+  same_gossip : (names : SpotSet) (g : Gossip Op) → SameGossip config.replicas l acks received names g → SameCarried m config l acks received issued calls (GossipOf names) (GossipMessage g)
 
 -- such a message goes from such an actor to such a one: gossip from a replica to another
 abbrev pub IsWay : {Op : Type 0} → Actor → Actor → Carried Op → Type 0
 IsWay (Client f) (Replica i) (UpdateCopy c t) = Unit {0}
 IsWay (Client f) (Replica i) (QueryCopy c) = Unit {0}
+IsWay (Client f) (Replica i) (AckCopy cid t) = Unit {0}
 IsWay (Replica i) (Client f) (DoneReply cid names) = Unit {0}
 IsWay (Replica i) (Client f) (AnswerReply cid names) = Unit {0}
 IsWay (Replica k) (Replica i) (GossipOf names) = (k == i) ≡ false
@@ -90,12 +97,12 @@ IsThere config (Client client) = client < config.clients
 IsThere config (Replica replica) = replica < config.replicas
 
 -- a message of the rules is this one of the graph
-pub record SameMessage {Value Op : Type 0} (m : Meaning Value Op) (config : Config) (l : List (Acceptance Op)) (received : ℕ → SpotSet) (issued : Cid → Option (LabelledCall Op)) (calls : ℕ → ℕ) (x : SentMessage Op) (p : Posted Op) : Type 0 where
+pub record SameMessage {Value Op : Type 0} (m : Meaning Value Op) (config : Config) (l : List (Acceptance Op)) (acks : List LogAck) (received : ℕ → SpotSet) (issued : Cid → Option (LabelledCall Op)) (calls : ℕ → ℕ) (x : SentMessage Op) (p : Posted Op) : Type 0 where
   pub from : x.from ≡ p.from
   pub to : x.to ≡ p.to
   pub way : IsWay x.from x.to x.what
   pub there : IsThere config x.to
-  pub what : SameCarried m config l received issued calls x.what p.message
+  pub what : SameCarried m config l acks received issued calls x.what p.message
 
 -- ---- front ends
 
@@ -104,18 +111,31 @@ abbrev pub IsOpen : {Op : Type 0} → ℕ → (Cid → Option (LabelledCall Op))
 IsOpen clients issued calls None = Unit {0}
 IsOpen clients issued calls (Some c) = IsIssued clients issued calls c
 
+-- a client's own call, or none
+abbrev pub IsOwnCall : {Op : Type 0} → ℕ → Option (LabelledCall Op) → Type 0
+IsOwnCall client None = Unit {0}
+IsOwnCall client (Some c) = c.cid.client ≡ client
+
+-- the name of a client's own call, or none
+abbrev pub IsOwnName : ℕ → Option Cid → Type 0
+IsOwnName client None = Unit {0}
+IsOwnName client (Some cid) = cid.client ≡ client
+
 -- a front end by the rules is this one of the graph
-pub record SameFront {Op : Type 0} (l : List (Acceptance Op)) (client : ℕ) (a : FrontFacts Op) (f : FrontState) : Type 0 where
+pub record SameFront {Op : Type 0} (l : List (Acceptance Op)) (client : ℕ) (a : FrontFacts Op) (f : FrontState Op) : Type 0 where
   pub client_is : f.client ≡ client
   pub calls : a.calls ≡ f.calls
   pub clock : a.clock ≡ f.clock
-  pub open_call : option_map (λ c. c.cid) a.open_call ≡ f.open_call
+  pub open_call : SameOption (SameCall l) a.open_call f.open_call
+  pub own_call : IsOwnCall client a.open_call
+  pub answered : a.answered ≡ f.answered
+  pub own_answered : IsOwnName client a.answered
   pub names : Names f.label a.label
   pub set : IsSetOf l a.label
 
 -- the rules have this front end in its place
-abbrev pub HasFront : {Op : Type 0} → List (Acceptance Op) → List FrontState → ℕ → FrontFacts Op → Type 0
-HasFront l fronts client a = (f : FrontState) × (slice_get fronts client ≡ Some f) × SameFront l client a f
+abbrev pub HasFront : {Op : Type 0} → List (Acceptance Op) → List (FrontState Op) → ℕ → FrontFacts Op → Type 0
+HasFront {Op} l fronts client a = (f : FrontState Op) × (slice_get fronts client ≡ Some f) × SameFront l client a f
 
 -- ---- acceptances
 
@@ -136,25 +156,30 @@ abbrev pub calls_in : {Op : Type 0} → Facts Op → ℕ → ℕ
 calls_in w client = (w.front client).calls
 
 -- what acceptances, front ends and messages keep, whatever a replica is at
-pub record IsShared {Value Op : Type 0} (m : Meaning Value Op) (config : Config) (issued : Cid → Option (LabelledCall Op)) (w : Facts Op) (fronts : List FrontState) (posted : List (Posted Op)) : Type 0 where
+pub record IsShared {Value Op : Type 0} (m : Meaning Value Op) (config : Config) (issued : Cid → Option (LabelledCall Op)) (w : Facts Op) (fronts : List (FrontState Op)) (posted : List (Posted Op)) : Type 0 where
   pub sound : IsSound w.accepted
   pub each : Each (IsAcceptance m config issued (calls_in w)) w.accepted
-  pub own : (a : Acceptance Op) → IsAmong a w.accepted → w.received a.spot.place a.spot ≡ true
-  pub exist : (i : ℕ) (s : Spot) → w.received i s ≡ true → IsAccepted w.accepted s
+  pub apart : AreApart (item_spots w)
+  pub numbered : Each (λ s. 0 < s.number) (item_spots w)
+  pub own : (s : Spot) → IsAmong s (item_spots w) → w.received s.place s ≡ true
+  pub exist : (i : ℕ) (s : Spot) → w.received i s ≡ true → IsAmong s (item_spots w)
   pub fronts_are : (client : ℕ) → client < config.clients → HasFront w.accepted fronts client (w.front client)
   pub opened : (client : ℕ) → IsOpen config.clients issued (calls_in w) (w.front client).open_call
   pub count : length w.messages ≡ length posted
-  pub messages : (n : ℕ) → SameOption (SameMessage m config w.accepted w.received issued (calls_in w)) (find (λ x. x.number == n) w.messages) (message_at posted n)
+  pub messages : (n : ℕ) → SameOption (SameMessage m config w.accepted w.acks w.received issued (calls_in w)) (find (λ x. x.number == n) w.messages) (message_at posted n)
 
 -- ---- replicas
 
 -- what no causal update changes
 pub record IsStill {Value Op : Type 0} (config : Config) (state : CausalState Value Op) : Type 0 where
-  pub clock : state.clock ≡ 0
-  pub acks : state.acks ≡ []
   pub imm : (place : ℕ) → part state.imm_ts place ≡ 0
   pub parts : length state.rep_ts ≡ config.replicas + 1
   pub keys : AreByCall state.calls
+
+-- a replica's clock is that of the facts, and its acknowledgements are those that it received, in the order of spots
+pub record HasNoted {Value Op : Type 0} (acks : List LogAck) (r : SpotSet) (clock : ℕ) (state : CausalState Value Op) : Type 0 where
+  pub clock_is : state.clock ≡ clock
+  pub acks_are : state.acks ≡ acks_of (λ a. r a.spot) acks
 
 -- a held query, of a client that there is
 pub record SameHeld {Op : Type 0} (clients : ℕ) (l : List (Acceptance Op)) (c : LabelledCall Op) (d : Call Op) : Type 0 where
@@ -184,6 +209,7 @@ abbrev pub IsTied : {Value Op : Type 0} → Meaning Value Op → Config → Fact
 IsTied {Value} {Op} m config w replicas i =
     (state : CausalState Value Op) × HasReplica config replicas i state
     × IsReplicaAt m config w.accepted (w.received i) (logged config w i) (w.kept i) (w.held i) state
+    × HasNoted w.acks (w.received i) (w.clock i) state
 
 -- a run and the facts of its history
 pub record IsSame {Value Op : Type 0} (m : Meaning Value Op) (config : Config) (w : Facts Op) (v : RunState Value Op) : Type 0 where

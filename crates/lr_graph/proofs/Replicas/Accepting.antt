@@ -103,7 +103,7 @@ module _ {Op : Type 0} (l : List (Acceptance Op)) (sound : IsSound l) (spot : Sp
 -- ---- what is received with it
 
 module _ {Value Op : Type 0} (m : Meaning Value Op) (config : Config) (l : List (Acceptance Op)) (sound : IsSound l) (r g : SpotSet) (kept : List Kept) (held : List (LabelledCall Op)) (state : CausalState Value Op) (ok : IsReplicaAt m config l r g kept held state)
-    (i : ℕ) (own : (b : Acceptance Op) → IsAmong b l → b.spot.place ≡ i → r b.spot ≡ true) (exist : (s : Spot) → r s ≡ true → IsAccepted l s) where
+    (i : ℕ) (own : (b : Acceptance Op) → IsAmong b l → b.spot.place ≡ i → r b.spot ≡ true) where
   abbrev pub next : Spot
   next = spot_at i (part state.rep_ts i + 1)
 
@@ -193,7 +193,7 @@ module _ {Value Op : Type 0} (m : Meaning Value Op) (config : Config) (l : List 
     }
 
     g_out : g next ≡ false
-    g_out = never _ (λ e. next-fresh (exist next (ok.within next e)))
+    g_out = never _ (λ e. let most = counted-most r state.rep_ts ok.counted next (ok.within next e) in absurd (omega arith))
 
     apart-old : Each (λ y. u.spot ≡ y.spot → ⊥) state.updates
     apart-old = each-map _ _ state.updates (λ y h same. next-fresh (h.0, h.1.among, sym (same ∙ h.1.spot))) ok.log.each

@@ -27,7 +27,7 @@ use Rattle.lr_graph.proofs.Applying.Keys.{keys-applied}
 use Rattle.lr_graph.proofs.Lists.Members.{each-from, each-map}
 use Rattle.lr_graph.proofs.Replicas.Posting.{message-sent, posting}
 use Rattle.lr_graph.proofs.Sets.ReadySets.{holds-ready, ready-closed, ready-holds}
-use Rattle.lr_graph.proofs.Related.Relation.{IsReplicaAt, IsShared, IsStill, SameCall, SameHeld, SameList, same_answer}
+use Rattle.lr_graph.proofs.Related.Relation.{HasNoted, IsReplicaAt, IsShared, IsStill, SameCall, SameHeld, SameList, same_answer}
 use Rattle.lr_graph.proofs.Related.Ties.{HasApplied, IsPending}
 
 -- a replica within its step, at which more may be ready than is applied
@@ -36,6 +36,7 @@ pub record IsMid {Value Op : Type 0} (m : Meaning Value Op) (config : Config) (w
   pub done : SpotSet
   pub pending : IsPending m w.accepted (w.received i) logs done (w.kept i) state
   pub still : IsStill config state
+  pub noted : HasNoted w.acks (w.received i) (w.clock i) state
   pub held_are : SameList (SameHeld config.clients w.accepted) (w.held i) state.held
   pub all_logged : (config.replicas == 1) ≡ false → (s : Spot) → logs s ≡ w.received i s
 
@@ -92,7 +93,7 @@ module _ {Value Op : Type 0} (m : Meaning Value Op) (config : Config) (w : Facts
 
   -- ---- the messages of the answers
 
-  module _ (issued : Cid → Option (LabelledCall Op)) (fronts : List FrontState) (x : Handling Op) where
+  module _ (issued : Cid → Option (LabelledCall Op)) (fronts : List (FrontState Op)) (x : Handling Op) where
     -- after some lines there are more messages, as many as were posted, and nothing else changed
     pub record HasSent (after : Facts Op) (posted : List (Posted Op)) : Type 0 where
       pub messages : List (SentMessage Op)
@@ -142,7 +143,7 @@ module _ {Value Op : Type 0} (m : Meaning Value Op) (config : Config) (w : Facts
   ended-at alone = at_count (config.replicas == 1) refl
     where
       still : IsStill config (applied m state)
-      still = record { clock = mid.still.clock; acks = mid.still.acks; imm = mid.still.imm; parts = mid.still.parts; keys = keys-applied m state mid.still.keys }
+      still = record { imm = mid.still.imm; parts = mid.still.parts; keys = keys-applied m state mid.still.keys }
 
       held_are : SameList (SameHeld config.clients w.accepted) (filter (λ c. not (is_within w.accepted c.label (w.received i))) (w.held i)) (filter (λ d. not (stamp_le d.prev (applied m state).val_ts)) state.held)
       held_are = same-kept m config w i sound (applied m state) mid-test done.names done.value_is (w.held i) state.held mid.held_are
@@ -158,7 +159,7 @@ module _ {Value Op : Type 0} (m : Meaning Value Op) (config : Config) (w : Facts
                 absurd (true≢false (sym (holds-ready w.accepted (w.received i) a member here (each-map _ _ w.accepted (λ b h below. h) all)) ∙ unready)));
             within = λ s h. absurd (true≢false (sym h));
             applied = record { names = done.names; value_is = done.value_is; table = done.table };
-            still = record { clock = still.clock; acks = still.acks; imm = still.imm; parts = still.parts; keys = still.keys };
+            still = record { imm = still.imm; parts = still.parts; keys = still.keys };
             held_are = held_are;
           }
       at_count false e = record {
@@ -171,6 +172,14 @@ module _ {Value Op : Type 0} (m : Meaning Value Op) (config : Config) (w : Facts
         covered = each-from _ w.accepted (λ a member here unready. here);
         within = λ s h. h;
         applied = record { names = done.names; value_is = done.value_is; table = done.table };
-        still = record { clock = still.clock; acks = still.acks; imm = still.imm; parts = still.parts; keys = still.keys };
+        still = record { imm = still.imm; parts = still.parts; keys = still.keys };
         held_are = held_are;
       }
+
+  -- the end of the step leaves the clock and the acknowledgements
+  pub ended-noted : HasNoted w.acks (w.received i) (w.clock i) (pruned config.replicas (still_held (applied m state)))
+  ended-noted = at_count (config.replicas == 1)
+    where
+      at_count : (t : Bool) → HasNoted w.acks (w.received i) (w.clock i) (cond t (record (still_held (applied m state)) { updates = [] }) (still_held (applied m state)))
+      at_count true = record { clock_is = mid.noted.clock_is; acks_are = mid.noted.acks_are }
+      at_count false = record { clock_is = mid.noted.clock_is; acks_are = mid.noted.acks_are }

@@ -6,13 +6,14 @@ use Rattle.lr_base.specs.Rules.{CausalState, gossip_taken, is_new, new_updates, 
 use Rattle.lr_base.specs.StampLaws.{part-join, part-set_part, parts-stamp_le}
 use Rattle.lr_base.specs.Stamps.{join, part, stamp_le}
 use Rattle.lr_base.specs.declared.messages.Gossip.{Gossip}
+use Rattle.lr_base.specs.declared.messages.LogAck.{LogAck}
 use Rattle.lr_base.specs.declared.messages.LogUpdate.{LogUpdate}
 use Rattle.lr_base.specs.declared.names.Config.{Config}
 use Rattle.lr_base.specs.declared.names.Spot.{Spot}
 use Rattle.lr_graph.specs.Closed.{Each, IsSound}
-use Rattle.lr_graph.specs.Graph.{Acceptance, Kept, LabelledCall, ready, size_of}
+use Rattle.lr_graph.specs.Graph.{Acceptance, Kept, LabelledCall, ready}
 use Rattle.lr_graph.specs.Names.{IsCounted}
-use Rattle.lr_graph.specs.Sets.{SpotSet, ◌∪◌}
+use Rattle.lr_graph.specs.Sets.{SpotSet, how_many, ◌∪◌}
 use Rattle.lr_graph.proofs.Replicas.Accepting.{flagged-all}
 use Rattle.lr_graph.proofs.Stamps.Central.{counted-has, counted-least, counted-most, top-received}
 use Rattle.lr_graph.proofs.StateLines.Listing.{size-log}
@@ -87,8 +88,29 @@ counted-join x y s t f g a = same-test _ _ (λ e. up (or-cases (x a) _ e)) (λ e
 
 -- ---- a replica and gossip
 
-module _ {Value Op : Type 0} (m : Meaning Value Op) (config : Config) (l : List (Acceptance Op)) (sound : IsSound l) (received : ℕ → SpotSet) (i : ℕ) (here : i < config.replicas) (logs : SpotSet) (kept : List Kept) (held : List (LabelledCall Op)) (state : CausalState Value Op)
-    (ok : IsReplicaAt m config l (received i) logs kept held state) (names : SpotSet) (gossip : Gossip Op) (same : SameGossip config.replicas l received names gossip) where
+-- an item is new where it wasn't received
+pub new-spot : (r : SpotSet) (rep : List ℕ) → IsCounted r rep → (s : Spot) → 0 < s.number → is_new rep s ≡ not (r s)
+new-spot r rep counted s some = same-test _ _ there back
+  where
+    there : is_new rep s ≡ true → not (r s) ≡ true
+    there e = by_test (r s) refl
+      where
+        by_test : (t : Bool) → r s ≡ t → not t ≡ true
+        by_test false q = refl
+        by_test true q =
+            let most = counted-most r rep counted s q in
+            let lt = leb-true (suc (part rep s.place)) s.number e in
+            absurd (omega arith)
+
+    back : not (r s) ≡ true → is_new rep s ≡ true
+    back e = by_number (le-or-lt (part rep s.place) s.number)
+      where
+        by_number : (s.number ≤ part rep s.place) ⊎ (part rep s.place < s.number) → is_new rep s ≡ true
+        by_number (inl le) = absurd (true≢false (sym (counted-has r rep counted s (omega arith) le) ∙ not-false (r s) e))
+        by_number (inr lt) = le-leb (suc (part rep s.place)) s.number lt
+
+module _ {Value Op : Type 0} (m : Meaning Value Op) (config : Config) (l : List (Acceptance Op)) (acks : List LogAck) (sound : IsSound l) (received : ℕ → SpotSet) (i : ℕ) (here : i < config.replicas) (logs : SpotSet) (kept : List Kept) (held : List (LabelledCall Op)) (state : CausalState Value Op)
+    (ok : IsReplicaAt m config l (received i) logs kept held state) (names : SpotSet) (gossip : Gossip Op) (same : SameGossip config.replicas l acks received names gossip) where
   abbrev r : SpotSet
   r = received i
 
@@ -98,27 +120,7 @@ module _ {Value Op : Type 0} (m : Meaning Value Op) (config : Config) (l : List 
 
   -- new is what wasn't received
   new-not_received : (u : LogUpdate Op) (a : Acceptance Op) → StandsFor l u a → is_new state.rep_ts u.spot ≡ not (r u.spot)
-  new-not_received u a s = same-test _ _ there back
-    where
-      some : 0 < u.spot.number
-      some = subst (λ (k : Spot). 0 < k.number) (sym s.spot) (each-at _ a l sound.numbered s.among)
-
-      there : is_new state.rep_ts u.spot ≡ true → not (r u.spot) ≡ true
-      there e = by_test (r u.spot) refl
-        where
-          by_test : (t : Bool) → r u.spot ≡ t → not t ≡ true
-          by_test false q = refl
-          by_test true q =
-              let most = counted-most r state.rep_ts ok.counted u.spot q in
-              let lt = leb-true (suc (part state.rep_ts u.spot.place)) u.spot.number e in
-              absurd (omega arith)
-
-      back : not (r u.spot) ≡ true → is_new state.rep_ts u.spot ≡ true
-      back e = by_number (le-or-lt (part state.rep_ts u.spot.place) u.spot.number)
-        where
-          by_number : (u.spot.number ≤ part state.rep_ts u.spot.place) ⊎ (part state.rep_ts u.spot.place < u.spot.number) → is_new state.rep_ts u.spot ≡ true
-          by_number (inl le) = absurd (true≢false (sym (counted-has r state.rep_ts ok.counted u.spot (let k = some in omega arith) le) ∙ not-false (r u.spot) e))
-          by_number (inr lt) = le-leb (suc (part state.rep_ts u.spot.place)) u.spot.number lt
+  new-not_received u a s = new-spot r state.rep_ts ok.counted u.spot (subst (λ (k : Spot). 0 < k.number) (sym s.spot) (each-at _ a l sound.numbered s.among))
 
   -- the new updates are the log of what is fresh
   new-log : IsLogOf l fresh (new_updates state.rep_ts gossip.updates)
@@ -148,7 +150,7 @@ module _ {Value Op : Type 0} (m : Meaning Value Op) (config : Config) (l : List 
           by_log (inr h) = absurd (true≢false (sym (same.elsewhere s (and-left (names s) _ e) h i here) ∙ not-false (r s) (and-right (names s) _ e)))
 
   -- so many acceptances are new as updates are
-  pub count-new : size_of l (λ s. names s && not (r s)) ≡ length (new_updates state.rep_ts gossip.updates)
+  pub count-new : how_many (λ a. names a.spot && not (r a.spot)) l ≡ length (new_updates state.rep_ts gossip.updates)
   count-new = how_many-same _ _ l (each-from _ l (λ a member. fresh-is a.spot)) ∙ size-log l fresh (new_updates state.rep_ts gossip.updates) sound new-log
 
   ready-wider : (s : Spot) → ready l r s ≡ true → ready l (r ∪ names) s ≡ true

@@ -1,12 +1,13 @@
 -- What a message itself does at a replica that goes on as it was.
-use Rattle.std.proofs.Common.{◌≡◌, ◌≢◌, ℕ, ◌+◌, ◌<◌, cond, not, ◌&&◌, inl, inr, List, [], ◌∷◌, ◌++◌, length, Option, refl, sym, ap, ◌∙◌, subst, arith}
+use Rattle.std.proofs.Common.{◌≡◌, ◌≢◌, ℕ, ◌+◌, ◌<◌, max, cond, not, ◌&&◌, inl, inr, List, [], ◌∷◌, ◌++◌, length, Option, Some, refl, sym, ap, ◌∙◌, subst, arith}
 use Rattle.std.proofs.lemmas.List.{append-nil}
 use Rattle.lr_base.specs.Meaning.{Meaning}
 use Rattle.lr_base.specs.Orders.{IsAmong}
-use Rattle.lr_base.specs.Rules.{CausalState}
+use Rattle.lr_base.specs.Rules.{CausalState, ticked}
 use Rattle.lr_base.specs.Steps.{answer_act, done_act, refusing, idle}
+use Rattle.lr_base.specs.declared.acts.Act.TheVariants.{Say}
 use Rattle.lr_base.specs.declared.acts.Posted.{Posted}
-use Rattle.lr_base.specs.declared.events.Outcome.TheVariants.{Refuse, Send}
+use Rattle.lr_base.specs.declared.events.Outcome.TheVariants.{ClockAt, Refuse, Send}
 use Rattle.lr_base.specs.declared.events.Refusal.{Refusal}
 use Rattle.lr_base.specs.declared.events.Refusal.TheVariants.{Again}
 use Rattle.lr_base.specs.declared.events.Sent.TheVariants.{Answer as AnswerSent, Done as DoneSent}
@@ -27,8 +28,9 @@ use Rattle.lr_graph.proofs.Stamps.Central.{below-set}
 use Rattle.lr_graph.proofs.Replicas.Ending.{IsMid, ready-set}
 use Rattle.lr_graph.proofs.Lists.Members.{each-at}
 use Rattle.lr_graph.proofs.Replicas.Posting.{message-sent, posting}
-use Rattle.lr_graph.proofs.Related.Relation.{IsReplicaAt, IsShared, IsTied, SameCall, same_answer, same_done}
-use Rattle.lr_graph.proofs.Replicas.Stepping.{IsOwnPart}
+use Rattle.lr_graph.proofs.Related.Relation.{HasNoted, IsReplicaAt, IsShared, IsTied, SameCall, same_answer, same_done}
+use Rattle.lr_graph.proofs.Handled.{alone}
+use Rattle.lr_graph.proofs.Replicas.Stepping.{IsOwnPart, put-other, put-same}
 use Rattle.lr_graph.proofs.Lists.Tests.{same_spot-self}
 use Rattle.lr_graph.specs.After.{Handling}
 
@@ -42,19 +44,20 @@ below_of-is (b ∷ l) apart a (inr member) =
 
 -- a replica that goes on as it was is within a step at which nothing came
 pub unchanged-mid : {Value Op : Type 0} (m : Meaning Value Op) (config : Config) (w : Facts Op) (i : ℕ) (state : CausalState Value Op) → Rattle.lr_graph.specs.Closed.IsSound w.accepted
-    → IsReplicaAt m config w.accepted (w.received i) (logged config w i) (w.kept i) (w.held i) state → IsMid m config w i state
-unchanged-mid m config w i state sound ok = record {
+    → IsReplicaAt m config w.accepted (w.received i) (logged config w i) (w.kept i) (w.held i) state → HasNoted w.acks (w.received i) (w.clock i) state → IsMid m config w i state
+unchanged-mid m config w i state sound ok noted = record {
   logs = logged config w i;
   done = ready w.accepted (w.received i);
   pending = unchanged-pending m config w.accepted sound (w.received i) (logged config w i) (w.kept i) (w.held i) state ok;
   still = ok.still;
+  noted = noted;
   held_are = ok.held_are;
   all_logged = λ several s. ap (λ t. not t && w.received i s) several;
 }
 
 module _ {Value Op : Type 0} (m : Meaning Value Op) (config : Config) (issued : Cid → Option (LabelledCall Op)) (w : Facts Op) (v : RunState Value Op) (shared : IsShared m config issued w v.fronts v.posted)
     (i : ℕ) (state : CausalState Value Op) (ok : IsReplicaAt m config w.accepted (w.received i) (logged config w i) (w.kept i) (w.held i) state)
-    (others : (j : ℕ) → j ≢ i → j < config.replicas → IsTied m config w v.replicas j) (x : Handling Op) where
+    (noted : HasNoted w.acks (w.received i) (w.clock i) state) (others : (j : ℕ) → j ≢ i → j < config.replicas → IsTied m config w v.replicas j) (x : Handling Op) where
   same_posts : IsShared m config issued w v.fronts (v.posted ++ [])
   same_posts = subst (λ (ps : List (Posted Op)). IsShared m config issued w v.fronts ps) (sym (append-nil v.posted)) shared
 
@@ -63,11 +66,11 @@ module _ {Value Op : Type 0} (m : Meaning Value Op) (config : Config) (issued : 
 
   -- nothing is done
   pub own-idle : IsOwnPart m config issued w v i x [] (idle state)
-  own-idle = record { lines = refl; shared = same_posts; mid = unchanged-mid m config w i state shared.sound ok; others = others }
+  own-idle = record { lines = refl; shared = same_posts; mid = unchanged-mid m config w i state shared.sound ok noted; others = others }
 
   -- a refusal
   pub own-refused : (why : Refusal) → IsOwnPart m config issued w v i x (Refuse why ∷ []) (refusing state why)
-  own-refused why = record { lines = refl; shared = same_posts; mid = unchanged-mid m config w i state shared.sound ok; others = others }
+  own-refused why = record { lines = refl; shared = same_posts; mid = unchanged-mid m config w i state shared.sound ok noted; others = others }
 
   -- a call that was taken before is replied to again
   pub own-again : (cid : Cid) → cid.client < config.clients → (a : Acceptance Op) → IsAmong a w.accepted → a.cid ≡ cid → (spot other : Spot) → spot ≡ a.spot → spot ≡ other → (stamp : List ℕ) → Names stamp a.below
@@ -83,7 +86,7 @@ module _ {Value Op : Type 0} (m : Meaning Value Op) (config : Config) (issued : 
           what = same_done cid cid (below_of w.accepted spot) other stamp refl (subst (Names stamp) (sym below) names) (subst (λ (y : SpotSet). Rattle.lr_graph.specs.Closed.IsSetOf w.accepted y) (sym below) (below-set w.accepted shared.sound a member))
               (record { acceptance = a; among = member; call = named; at = sym is ∙ same; below = sym below });
         });
-    mid = unchanged-mid m config (record w { messages = sent ∷ w.messages }) i state shared.sound ok;
+    mid = unchanged-mid m config (record w { messages = sent ∷ w.messages }) i state shared.sound ok noted;
     others = others;
   }
     where
@@ -100,9 +103,37 @@ module _ {Value Op : Type 0} (m : Meaning Value Op) (config : Config) (issued : 
     lines = λ k. Send (next_is k) (Replica i) (Client (same.cid k).client) (AnswerSent (same.cid k) (m.read (sym ok.applied.value_is k) (same.op k))) ∷ [];
     shared = message-sent m config issued w v.fronts v.posted shared sent (posting (Replica i) (Client d.cid.client) (Answer d.cid (m.read state.value d.op) state.val_ts)) next_is
         (record { from = refl; to = ap (λ (cid : Cid). Client cid.client) same.cid; way = tt; there = client; what = same_answer c.cid d.cid (ready w.accepted (w.received i)) _ state.val_ts same.cid ok.applied.names (ready-set w.accepted shared.sound (w.received i)) });
-    mid = unchanged-mid m config (record w { messages = sent ∷ w.messages }) i state shared.sound ok;
+    mid = unchanged-mid m config (record w { messages = sent ∷ w.messages }) i state shared.sound ok noted;
     others = others;
   }
     where
       sent : SentMessage Op
       sent = record { number = next_number w; from = Replica i; to = Client c.cid.client; what = AnswerReply c.cid (ready w.accepted (w.received i)) }
+
+-- ---- the clock
+
+module _ {Value Op : Type 0} (m : Meaning Value Op) (config : Config) (issued : Cid → Option (LabelledCall Op)) (w : Facts Op) (v : RunState Value Op) (shared : IsShared m config issued w v.fronts v.posted)
+    (i : ℕ) (state : CausalState Value Op) (ok : IsReplicaAt m config w.accepted (w.received i) (logged config w i) (w.kept i) (w.held i) state)
+    (noted : HasNoted w.acks (w.received i) (w.clock i) state) (others : (j : ℕ) → j ≢ i → j < config.replicas → IsTied m config w v.replicas j) where
+  -- the clock is read
+  pub own-ticked : (reading : ℕ)
+      → IsOwnPart m config issued w v i (alone (Some (Replica i))) (ClockAt (max (w.clock i) reading) ∷ []) (record { state = ticked reading state; acts = Say (ClockAt (max state.clock reading)) ∷ [] })
+  own-ticked reading = record {
+    lines = λ k. ClockAt (max (sym noted.clock_is k) reading) ∷ [];
+    shared = let s = same_posts m config issued w v shared i state ok noted others (alone (Some (Replica i))) in record { sound = s.sound; each = s.each; apart = s.apart; numbered = s.numbered; own = s.own; exist = s.exist; fronts_are = s.fronts_are; opened = s.opened; count = s.count; messages = s.messages };
+    mid = let mid = unchanged-mid m config w i state shared.sound ok noted in record {
+      logs = mid.logs;
+      done = mid.done;
+      pending = record { counted = mid.pending.counted; log = mid.pending.log; received = mid.pending.received; covered = mid.pending.covered; within = mid.pending.within; flagged = mid.pending.flagged; applied = record { names = mid.pending.applied.names; value_is = mid.pending.applied.value_is; table = mid.pending.applied.table } };
+      still = record { imm = mid.still.imm; parts = mid.still.parts; keys = mid.still.keys };
+      noted = record { clock_is = ap (λ n. max n reading) noted.clock_is ∙ sym (put-same i (max (w.clock i) reading) w.clock); acks_are = noted.acks_are };
+      held_are = mid.held_are;
+      all_logged = mid.all_logged;
+    };
+    others = λ j apart within. (let old = others j apart within in (
+      old.0,
+      old.1,
+      old.2,
+      subst (λ (n : ℕ). HasNoted w.acks (w.received j) n old.0) (sym (put-other i j (max (w.clock i) reading) w.clock apart)) old.3,
+    ));
+  }

@@ -40,16 +40,18 @@ act_posts-append from [] ys = refl
 act_posts-append from (Say line ∷ xs) ys = act_posts-append from xs ys
 act_posts-append {Op} from (Send to message ∷ xs) ys = ap (λ (ps : List (Posted Op)). posting from to message ∷ ps) (act_posts-append from xs ys)
 
-module _ {Value Op : Type 0} (m : Meaning Value Op) (config : Config) (issued : Cid → Option (LabelledCall Op)) (w : Facts Op) (fronts : List FrontState) (posted : List (Posted Op)) (shared : IsShared m config issued w fronts posted) where
+module _ {Value Op : Type 0} (m : Meaning Value Op) (config : Config) (issued : Cid → Option (LabelledCall Op)) (w : Facts Op) (fronts : List (FrontState Op)) (posted : List (Posted Op)) (shared : IsShared m config issued w fronts posted) where
   abbrev Same : Option (SentMessage Op) → Option (Posted Op) → Type 0
-  Same = SameOption (SameMessage m config w.accepted w.received issued (calls_in w))
+  Same = SameOption (SameMessage m config w.accepted w.acks w.received issued (calls_in w))
 
   -- a message is sent on both sides
-  pub message-sent : (x : SentMessage Op) (p : Posted Op) → x.number ≡ length posted + 1 → SameMessage m config w.accepted w.received issued (calls_in w) x p
+  pub message-sent : (x : SentMessage Op) (p : Posted Op) → x.number ≡ length posted + 1 → SameMessage m config w.accepted w.acks w.received issued (calls_in w) x p
       → IsShared m config issued (record w { messages = x ∷ w.messages }) fronts (posted ++ p ∷ [])
   message-sent x p number same = record {
     sound = shared.sound;
     each = shared.each;
+    apart = shared.apart;
+    numbered = shared.numbered;
     own = shared.own;
     exist = shared.exist;
     fronts_are = shared.fronts_are;

@@ -20,7 +20,8 @@ use Rattle.lr_graph.specs.Graph.{Acceptance, Facts, Kept, LabelledCall, is_withi
 use Rattle.lr_graph.specs.Legal.{answers_at, logged, next_number}
 use Rattle.lr_graph.specs.Runs.{RunState, act_lines, act_posts}
 use Rattle.lr_graph.specs.Sets.{put_at}
-use Rattle.lr_graph.proofs.Replicas.Ending.{HasSent, IsMid, answers-sent, ended-at, mid-test, same-answers}
+use Rattle.lr_graph.proofs.Logs.Items.{accepted-item}
+use Rattle.lr_graph.proofs.Replicas.Ending.{HasSent, IsMid, answers-sent, ended-at, ended-noted, mid-test, same-answers}
 use Rattle.lr_graph.proofs.Lists.Members.{each-at, each-from, each-map}
 use Rattle.lr_graph.proofs.Lists.Places.{slice-set_other, slice-set_same}
 use Rattle.lr_graph.proofs.Replicas.Posting.{act_lines-append, act_posts-append}
@@ -122,7 +123,7 @@ module _ {Value Op : Type 0} (m : Meaning Value Op) {e : Encoding Value} (kind_o
       let one = eqb-true config.replicas 1 e in
       let place = (each-at _ a w1.accepted part.shared.each member).place in
       let same : a.spot.place ≡ i = omega arith in
-      ap (λ k. w1.received k a.spot) (sym same) ∙ part.shared.own a member)
+      ap (λ k. w1.received k a.spot) (sym same) ∙ part.shared.own a.spot (accepted-item w1 a member))
 
   -- the facts at the end
   abbrev w2 : Facts Op
@@ -134,7 +135,7 @@ module _ {Value Op : Type 0} (m : Meaning Value Op) {e : Encoding Value} (kind_o
       append_assoc v.posted (act_posts (Replica i) end.acts) (act_posts (Replica i) (held_acts m now now.held))
       ∙ ap (λ (ps : List (Posted Op)). v.posted ++ ps) (sym (act_posts-append (Replica i) end.acts (held_acts m now now.held))) in
       let s = subst (λ (ps : List (Posted Op)). IsShared m config issued (record w1 { messages = sent.messages }) v.fronts ps) posts sent.shared in
-      record { sound = s.sound; each = s.each; own = s.own; exist = s.exist; fronts_are = s.fronts_are; opened = s.opened; count = s.count; messages = s.messages }
+      record { sound = s.sound; each = s.each; apart = s.apart; numbered = s.numbered; own = s.own; exist = s.exist; fronts_are = s.fronts_are; opened = s.opened; count = s.count; messages = s.messages }
 
   abbrev kept2 : List Kept
   kept2 = keep_new w1.accepted (ready w1.accepted (w1.received i)) w1.accepted (w1.kept i)
@@ -161,6 +162,7 @@ module _ {Value Op : Type 0} (m : Meaning Value Op) {e : Encoding Value} (kind_o
         subst (λ kept. IsReplicaAt m config w1.accepted (w1.received i) (logged config w1 i) kept (w2.held i) last.state) (sym (put-same i kept2 w1.kept))
             (subst (λ held. IsReplicaAt m config w1.accepted (w1.received i) (logged config w1 i) kept2 held last.state) (sym (put-same i held2 w1.held))
             (ended-at m config w1 i part.shared.sound end.state part.mid kept2 all_applied alone)),
+        ended-noted m config w1 i part.shared.sound end.state part.mid kept2 all_applied,
       )
       by_place (inr apart) =
           let old = part.others j apart within in (
@@ -174,6 +176,7 @@ module _ {Value Op : Type 0} (m : Meaning Value Op) {e : Encoding Value} (kind_o
             },
             subst (λ kept. IsReplicaAt m config w1.accepted (w1.received j) (logged config w1 j) kept (w2.held j) old.0) (sym (put-other i j kept2 w1.kept apart))
                 (subst (λ held. IsReplicaAt m config w1.accepted (w1.received j) (logged config w1 j) (w1.kept j) held old.0) (sym (put-other i j held2 w1.held apart)) old.2),
+            old.3,
           )
 
   pub step-ends : IsStep m config w x (Some i) own (act_lines (length v.posted) (Replica i) last.acts) (record { replicas = replicas2; fronts = v.fronts; posted = v.posted ++ act_posts (Replica i) last.acts })

@@ -12,7 +12,7 @@ use Rattle.lr_base.specs.declared.messages.LogUpdate.{LogUpdate}
 use Rattle.lr_base.specs.declared.messages.Message.{Message}
 use Rattle.lr_base.specs.declared.names.Config.{Config}
 use Rattle.lr_base.specs.declared.names.Spot.{Spot}
-use Rattle.lr_graph.specs.Central.{CarriesStamp, HasStamps, IsCentral, IsHeldIn, IsUpdateIn, StandsForSet, greatest, joined, IsCallIn, IsMessageIn}
+use Rattle.lr_graph.specs.Central.{CarriesStamp, HasStamps, IsCentral, IsHeldIn, IsUpdateIn, StandsForSet, greatest, joined, IsCallIn, IsOpenIn, IsMessageIn}
 use Rattle.lr_graph.specs.Closed.{Each, HasApartSpots, HasOlderCauses, IsSetOf, IsSound, causes}
 use Rattle.lr_graph.specs.Graph.{Acceptance, Carried, Facts, LabelledCall, SentMessage, is_within, ready}
 use Rattle.lr_graph.specs.Legal.{logged}
@@ -23,7 +23,7 @@ use Rattle.lr_graph.proofs.Stamps.Central.{below-set, stamp_le-within}
 use Rattle.lr_graph.proofs.Replicas.Ending.{ready-set}
 use Rattle.lr_graph.proofs.Lists.Members.{each-at, each-from, each-map}
 use Rattle.lr_graph.proofs.Sets.ReadySets.{causes-accepted, self-below, update-stamp}
-use Rattle.lr_graph.proofs.Related.Relation.{IsReplicaAt, IsSame, SameCarried, SameHeld, SameList, SameMessage, SameOption, calls_in, same_answer, same_done, same_gossip, same_query, same_update, SameCall}
+use Rattle.lr_graph.proofs.Related.Relation.{HasNoted, IsReplicaAt, IsSame, SameCarried, SameHeld, SameList, SameMessage, SameOption, calls_in, same_ack, same_answer, same_done, same_gossip, same_query, same_update, SameCall}
 use Rattle.lr_graph.proofs.Related.Ties.{IsUpdateOf}
 use Rattle.lr_graph.proofs.Lists.Tests.{and-intro, and-left, and-right, decided, never, not-false, same_spot-is, same_spot-self}
 use Rattle.lr_graph.specs.Slow.{value_in}
@@ -169,14 +169,23 @@ module _ {Value Op : Type 0} (m : Meaning Value Op) (config : Config) (w : Facts
   call-in : (c : LabelledCall Op) (d : Call Op) → SameCall w.accepted c d → IsCallIn config w v c d
   call-in c d call = record { cid = sym call.cid; op = sym call.op; label = stands d.prev c.label call.names call.set }
 
-  carries : (x : Carried Op) (p : Message Op) → SameCarried m config w.accepted w.received same.issued (calls_in w) x p → CarriesStamp config w v x p
+  -- and so has an open call
+  open-in : (o : Option (LabelledCall Op)) (p : Option (Call Op)) → SameOption (SameCall w.accepted) o p → IsOpenIn config w v o p
+  open-in None None h = tt
+  open-in (Some c) (Some d) h = call-in c d h
+  open-in None (Some d) h = h
+  open-in (Some c) None h = h
+
+  carries : (x : Carried Op) (p : Message Op) → SameCarried m config w.accepted w.acks w.received same.issued (calls_in w) x p → CarriesStamp config w v x p
   carries x p (same_update c d t time call times by update) = (call-in c d call, sym times)
   carries x p (same_query c d call by) = call-in c d call
+  carries x p (same_ack cid other t time cids times client) = (sym cids, sym times)
   carries x p (same_done cid other names at stamp cids named set done) = (sym cids, done, stands stamp names named set)
   carries x p (same_answer cid other names text stamp cids named set) = (sym cids, stands stamp names named set)
   carries x p (same_gossip names g h) = record {
     counted = h.counted;
     updates = each-map (IsUpdateOf w.accepted h.logs) (IsUpdateIn config w v) g.updates (λ u of. update-in u h.logs of) h.log.each;
+    acks = h.acks_are;
   }
 
   -- each held query has its counterpart
@@ -189,9 +198,11 @@ module _ {Value Op : Type 0} (m : Meaning Value Op) (config : Config) (w : Facts
     held-in i cs ds (λ x member. into x (inr member)) all.1,
   )
 
-  has-stamps : (i : ℕ) (replica : ReplicaState Value Op) → IsReplicaAt m config w.accepted (w.received i) (logged config w i) (w.kept i) (w.held i) replica.causal → HasStamps config w v i replica
-  has-stamps i replica ok = record {
+  has-stamps : (i : ℕ) (replica : ReplicaState Value Op) → IsReplicaAt m config w.accepted (w.received i) (logged config w i) (w.kept i) (w.held i) replica.causal → HasNoted w.acks (w.received i) (w.clock i) replica.causal → HasStamps config w v i replica
+  has-stamps i replica ok noted = record {
     prefixes = ok.counted;
+    clock = noted.clock_is;
+    acks = noted.acks_are;
     value = stands replica.causal.val_ts (ready w.accepted (w.received i)) ok.applied.names (ready-set w.accepted same.shared.sound (w.received i));
     held = held-in i (w.held i) replica.causal.held (λ c member. member) ok.held_are;
     updates = each-map (IsUpdateOf w.accepted (logged config w i)) (IsUpdateIn config w v) replica.causal.updates (λ u h. update-in u (logged config w i) h) ok.log.each;
@@ -222,7 +233,7 @@ module _ {Value Op : Type 0} (m : Meaning Value Op) (config : Config) (w : Facts
     replicas = λ i inside. (let tied = same.replicas i inside in (
       tied.1.replica,
       tied.1.there,
-      has-stamps i tied.1.replica (subst (λ state. IsReplicaAt m config w.accepted (w.received i) (logged config w i) (w.kept i) (w.held i) state) (sym tied.1.state_is) tied.2),
+      has-stamps i tied.1.replica (subst (λ state. IsReplicaAt m config w.accepted (w.received i) (logged config w i) (w.kept i) (w.held i) state) (sym tied.1.state_is) tied.2) (subst (λ state. HasNoted w.acks (w.received i) (w.clock i) state) (sym tied.1.state_is) tied.3),
     ));
     fronts = λ client inside. (let f = same.shared.fronts_are client inside in (
       f.0,
@@ -231,19 +242,20 @@ module _ {Value Op : Type 0} (m : Meaning Value Op) (config : Config) (w : Facts
         client_is = f.2.client_is;
         calls = sym f.2.calls;
         clock = sym f.2.clock;
-        open_call = sym f.2.open_call;
+        open_call = open-in (w.front client).open_call f.0.open_call f.2.open_call;
+        answered = sym f.2.answered;
         label = stands f.0.label (w.front client).label f.2.names f.2.set;
       },
     ));
     count = same.shared.count;
-    messages = λ n p there. by_found n p (find (λ y. y.number == n) w.messages) refl (subst (λ o. SameOption (SameMessage m config w.accepted w.received same.issued (calls_in w)) (find (λ y. y.number == n) w.messages) o) there (same.shared.messages n));
+    messages = λ n p there. by_found n p (find (λ y. y.number == n) w.messages) refl (subst (λ o. SameOption (SameMessage m config w.accepted w.acks w.received same.issued (calls_in w)) (find (λ y. y.number == n) w.messages) o) there (same.shared.messages n));
   }
     where
-      by_found : (n : ℕ) (p : Posted Op) (o : Option (SentMessage Op)) → find (λ y. y.number == n) w.messages ≡ o → SameOption (SameMessage m config w.accepted w.received same.issued (calls_in w)) (find (λ y. y.number == n) w.messages) (Some p)
+      by_found : (n : ℕ) (p : Posted Op) (o : Option (SentMessage Op)) → find (λ y. y.number == n) w.messages ≡ o → SameOption (SameMessage m config w.accepted w.acks w.received same.issued (calls_in w)) (find (λ y. y.number == n) w.messages) (Some p)
           → (x : SentMessage Op) × (find (λ y. y.number == n) w.messages ≡ Some x) × IsMessageIn config w v x p
-      by_found n p o e h = go o e (subst (λ q. SameOption (SameMessage m config w.accepted w.received same.issued (calls_in w)) q (Some p)) e h)
+      by_found n p o e h = go o e (subst (λ q. SameOption (SameMessage m config w.accepted w.acks w.received same.issued (calls_in w)) q (Some p)) e h)
         where
-          go : (o : Option (SentMessage Op)) → find (λ y. y.number == n) w.messages ≡ o → SameOption (SameMessage m config w.accepted w.received same.issued (calls_in w)) o (Some p)
+          go : (o : Option (SentMessage Op)) → find (λ y. y.number == n) w.messages ≡ o → SameOption (SameMessage m config w.accepted w.acks w.received same.issued (calls_in w)) o (Some p)
               → (x : SentMessage Op) × (find (λ y. y.number == n) w.messages ≡ Some x) × IsMessageIn config w v x p
           go None e h = absurd h
           go (Some x) e h = (x, e, record { from = sym h.from; to = sym h.to; what = carries x.what p.message h.what })

@@ -6,8 +6,8 @@ use Rattle.lr_base.specs.InsertionLaws.{among-inserted, ascends-inserted, each-i
 use Rattle.lr_base.specs.declared.messages.LogUpdate.{LogUpdate}
 use Rattle.lr_base.specs.declared.names.Spot.{Spot}
 use Rattle.lr_graph.specs.Closed.{Each, HasApartSpots, IsSound}
-use Rattle.lr_graph.specs.Graph.{Acceptance, size_of, spots_of}
-use Rattle.lr_graph.specs.Sets.{SpotSet, insert_spot, same_spot}
+use Rattle.lr_graph.specs.Graph.{Acceptance, spots_of}
+use Rattle.lr_graph.specs.Sets.{SpotSet, how_many, insert_spot, same_spot}
 use Rattle.lr_graph.proofs.Lists.Ascents.{Ascends, same-ascents}
 use Rattle.lr_graph.proofs.Lists.Members.{each-at, each-map}
 use Rattle.lr_graph.proofs.Logs.Orders.{before-apart, before-trans, behind-shown}
@@ -62,11 +62,11 @@ module _ {Op : Type 0} where
       at_head true rest = ascends-insert_spot a.spot (spots_of l g) (each-spots_of (λ s. a.spot ≡ s → ⊥) l g (each-map _ _ l (λ b h here same. true≢false (sym (ap (λ s. same_spot s a.spot) (sym same) ∙ same_spot-self a.spot) ∙ h)) apart.0)) rest
       at_head false rest = rest
 
-  length-spots_of : (l : List (Acceptance Op)) (g : SpotSet) → length (spots_of l g) ≡ size_of l g
+  length-spots_of : (l : List (Acceptance Op)) (g : SpotSet) → length (spots_of l g) ≡ how_many (λ a. g a.spot) l
   length-spots_of [] g = refl
   length-spots_of (a ∷ l) g = at_head (g a.spot) (length-spots_of l g)
     where
-      at_head : (t : Bool) → length (spots_of l g) ≡ size_of l g → length (cond t (insert_spot a.spot (spots_of l g)) (spots_of l g)) ≡ cond t (suc (size_of l g)) (size_of l g)
+      at_head : (t : Bool) → length (spots_of l g) ≡ how_many (λ a. g a.spot) l → length (cond t (insert_spot a.spot (spots_of l g)) (spots_of l g)) ≡ cond t (suc (how_many (λ a. g a.spot) l)) (how_many (λ a. g a.spot) l)
       at_head true rest = length-inserted is_before a.spot (spots_of l g) ∙ ap suc rest
       at_head false rest = rest
 
@@ -101,5 +101,5 @@ module _ {Op : Type 0} where
   length-map (u ∷ us) = ap suc (length-map us)
 
   -- and there are as many updates
-  pub size-log : (l : List (Acceptance Op)) (g : SpotSet) (us : List (LogUpdate Op)) → IsSound l → IsLogOf l g us → size_of l g ≡ length us
+  pub size-log : (l : List (Acceptance Op)) (g : SpotSet) (us : List (LogUpdate Op)) → IsSound l → IsLogOf l g us → how_many (λ a. g a.spot) l ≡ length us
   size-log l g us sound log = sym (length-spots_of l g) ∙ ap length (spots-log l g us sound log) ∙ length-map us

@@ -1,17 +1,19 @@
 -- The state line of a replica, and whether it may log and number one more.
-use Rattle.std.proofs.Common.{◌≡◌, ℕ, suc, true, List, [], ◌∷◌, map, refl, sym, ◌∙◌, arith}
+use Rattle.std.proofs.Common.{◌≡◌, ◌<◌, ℕ, suc, true, List, [], ◌∷◌, map, refl, sym, ◌∙◌, arith}
 use Rattle.lr_base.specs.Meaning.{Meaning}
 use Rattle.lr_base.specs.Replicas.{ReplicaState, state_line_of}
 use Rattle.lr_base.specs.declared.messages.Call.{Call}
 use Rattle.lr_base.specs.declared.messages.LogAck.{LogAck}
 use Rattle.lr_base.specs.declared.names.Config.{Config}
 use Rattle.lr_base.specs.declared.names.Spot.{Spot}
-use Rattle.lr_graph.specs.Closed.{IsAccepted, IsSound}
-use Rattle.lr_graph.specs.Graph.{Acceptance, Facts, LabelledCall, ready}
+use Rattle.lr_base.specs.Orders.{IsAmong}
+use Rattle.lr_graph.specs.Closed.{Each, IsSound}
+use Rattle.lr_graph.specs.Graph.{Acceptance, Facts, LabelledCall, item_spots, ready}
 use Rattle.lr_graph.specs.Legal.{logged, replica_line}
 use Rattle.lr_graph.proofs.StateLines.CallLists.{calls-table}
 use Rattle.lr_graph.proofs.StateLines.Listing.{spots-log}
-use Rattle.lr_graph.proofs.Related.Relation.{IsReplicaAt, SameHeld, SameList}
+use Rattle.lr_graph.proofs.Logs.Items.{AreApart}
+use Rattle.lr_graph.proofs.Related.Relation.{HasNoted, IsReplicaAt, SameHeld, SameList}
 use Rattle.lr_graph.proofs.Logs.Tallying.{counts-are}
 
 -- the same calls are held
@@ -22,22 +24,21 @@ held-cids clients l (c ∷ cs) [] h = absurd h
 held-cids clients l (c ∷ cs) (d ∷ ds) h = λ i. h.0.call.cid i ∷ held-cids clients l cs ds h.1 i
 
 -- what is printed of a replica is the same in the graph and by the rules
-pub same-line : {Value Op : Type 0} (m : Meaning Value Op) (config : Config) (w : Facts Op) (i : ℕ) → IsSound w.accepted → ((s : Spot) → w.received i s ≡ true → IsAccepted w.accepted s)
-    → (replica : ReplicaState Value Op) → replica.me ≡ i → IsReplicaAt m config w.accepted (w.received i) (logged config w i) (w.kept i) (w.held i) replica.causal
+pub same-line : {Value Op : Type 0} (m : Meaning Value Op) (config : Config) (w : Facts Op) (i : ℕ) → IsSound w.accepted → AreApart (item_spots w) → Each (λ s. 0 < s.number) (item_spots w) → ((s : Spot) → w.received i s ≡ true → IsAmong s (item_spots w))
+    → (replica : ReplicaState Value Op) → replica.me ≡ i → IsReplicaAt m config w.accepted (w.received i) (logged config w i) (w.kept i) (w.held i) replica.causal → HasNoted w.acks (w.received i) (w.clock i) replica.causal
     → replica_line config w i ≡ state_line_of replica
-same-line m config w i sound exist replica number ok =
-    let clock = ok.still.clock in
-    let received = counts-are w.accepted sound (w.received i) replica.causal.rep_ts ok.counted exist (suc config.replicas) (ok.still.parts ∙ omega arith) in
+same-line m config w i sound apart numbered exist replica number ok noted =
+    let received = counts-are (item_spots w) apart numbered (w.received i) replica.causal.rep_ts ok.counted exist (suc config.replicas) (ok.still.parts ∙ omega arith) in
     let log = spots-log w.accepted (logged config w i) replica.causal.updates sound ok.log in
     let calls = calls-table w.accepted (ready w.accepted (w.received i)) replica.causal.calls ok.still.keys ok.applied.table.known in
     let held = held-cids config.clients w.accepted (w.held i) replica.causal.held ok.held_are in
     λ k. record {
       replica = sym number k;
       view = 0;
-      clock = sym clock k;
+      clock = sym noted.clock_is k;
       received = received k;
       log = log k;
-      acks = map (λ (a : LogAck). a.spot) (sym ok.still.acks k);
+      acks = map (λ (a : LogAck). a.spot) (sym noted.acks_are k);
       calls = calls k;
       held = held k;
       marks = [];

@@ -1,18 +1,19 @@
 -- Facts without what replicas hold and keep change by themselves.
 use Rattle.std.proofs.Common.{◌≡◌, ℕ, ◌+◌, ◌<◌, List, [], ◌∷◌, ◌++◌, Option, Some, None, length, take, take-suc, get_or, add-one, refl, sym, ap, ◌∙◌}
 use Rattle.lr_base.specs.declared.events.Event.{Event}
-use Rattle.lr_base.specs.declared.events.Event.TheVariants.{Call, Deliver, Gossip as GossipEvent, Show}
+use Rattle.lr_base.specs.declared.events.Event.TheVariants.{Call, Resend, Ack as AckEvent, Deliver, Tick, Gossip as GossipEvent, Show}
 use Rattle.lr_base.specs.declared.events.Outcome.{Outcome}
-use Rattle.lr_base.specs.declared.events.Outcome.TheVariants.{Send, Accept, Hold, Take, Got, Stale, NoMessage, Refuse, State}
+use Rattle.lr_base.specs.declared.events.Outcome.TheVariants.{Send, Accept, Note, Hold, Take, Got, Stale, ClockAt, NoMessage, Refuse, State}
 use Rattle.lr_base.specs.declared.events.Sent.{Sent}
-use Rattle.lr_base.specs.declared.events.Sent.TheVariants.{Update, Query, Done, Answer, Gossip}
+use Rattle.lr_base.specs.declared.events.Sent.TheVariants.{Update, Query, Ack, Done, Answer, Gossip}
 use Rattle.lr_base.specs.declared.events.Step.{Step}
 use Rattle.lr_base.specs.declared.names.Actor.{Actor}
 use Rattle.lr_base.specs.declared.names.Actor.TheVariants.{Client, Replica}
 use Rattle.lr_base.specs.declared.names.Spot.{Spot}
+use Rattle.lr_graph.specs.After.{at_replica, clock_set, note_read, replica_in}
 use Rattle.lr_graph.specs.After.{accept_read, after, carried, event_read, got_read, hold_read, line_read, lines_read, step_ended, stepping, take_read, Handling, handling, with_message}
 use Rattle.lr_graph.specs.Central.{facts_after}
-use Rattle.lr_graph.specs.Graph.{Carried, Facts, SentMessage, UpdateCopy, QueryCopy, DoneReply, AnswerReply, GossipOf, Blank}
+use Rattle.lr_graph.specs.Graph.{Carried, Facts, SentMessage, UpdateCopy, QueryCopy, AckCopy, DoneReply, AnswerReply, GossipOf}
 use Rattle.lr_graph.specs.Told.{bare}
 use Rattle.lr_base.specs.Meaning.{Meaning}
 use Rattle.lr_base.specs.declared.names.Config.{Config}
@@ -23,6 +24,8 @@ module _ {Op : Type 0} where
   bare-carried w (Client c) (Update cid time) = refl
   bare-carried w (Replica i) (Query cid) = refl
   bare-carried w (Client c) (Query cid) = refl
+  bare-carried w (Replica i) (Ack cid time) = refl
+  bare-carried w (Client c) (Ack cid time) = refl
   bare-carried w (Replica i) (Done cid spot) = refl
   bare-carried w (Client c) (Done cid spot) = refl
   bare-carried w (Replica i) (Answer cid text) = refl
@@ -31,40 +34,25 @@ module _ {Op : Type 0} where
   bare-carried w (Client c) Gossip = refl
 
   bare-accept : (w : Facts Op) (spot : Spot) (to : Actor) (what : Carried Op) → bare (accept_read (bare w) spot to what) ≡ bare (accept_read w spot to what)
-  bare-accept w spot (Client c) what = refl
   bare-accept w spot (Replica i) (UpdateCopy call time) = refl
-  bare-accept w spot (Replica i) (QueryCopy call) = refl
-  bare-accept w spot (Replica i) (DoneReply cid names) = refl
-  bare-accept w spot (Replica i) (AnswerReply cid names) = refl
-  bare-accept w spot (Replica i) (GossipOf names) = refl
-  bare-accept w spot (Replica i) Blank = refl
+  bare-accept w spot _ _ = refl
+
+  bare-note : (w : Facts Op) (spot : Spot) (to : Actor) (what : Carried Op) → bare (note_read (bare w) spot to what) ≡ bare (note_read w spot to what)
+  bare-note w spot (Replica i) (AckCopy cid time) = refl
+  bare-note w spot _ _ = refl
 
   bare-hold : (w : Facts Op) (to : Actor) (what : Carried Op) → bare (hold_read (bare w) to what) ≡ bare (hold_read w to what)
-  bare-hold w (Client c) what = refl
-  bare-hold w (Replica i) (UpdateCopy call time) = refl
   bare-hold w (Replica i) (QueryCopy call) = refl
-  bare-hold w (Replica i) (DoneReply cid names) = refl
-  bare-hold w (Replica i) (AnswerReply cid names) = refl
-  bare-hold w (Replica i) (GossipOf names) = refl
-  bare-hold w (Replica i) Blank = refl
+  bare-hold w _ _ = refl
 
   bare-take : (w : Facts Op) (to : Actor) (what : Carried Op) → bare (take_read (bare w) to what) ≡ bare (take_read w to what)
-  bare-take w (Client c) what = refl
-  bare-take w (Replica i) (UpdateCopy call time) = refl
-  bare-take w (Replica i) (QueryCopy call) = refl
-  bare-take w (Replica i) (DoneReply cid names) = refl
-  bare-take w (Replica i) (AnswerReply cid names) = refl
   bare-take w (Replica i) (GossipOf names) = refl
-  bare-take w (Replica i) Blank = refl
+  bare-take w _ _ = refl
 
   bare-got : (w : Facts Op) (to : Actor) (what : Carried Op) → bare (got_read (bare w) to what) ≡ bare (got_read w to what)
-  bare-got w (Replica i) what = refl
-  bare-got w (Client c) (UpdateCopy call time) = refl
-  bare-got w (Client c) (QueryCopy call) = refl
   bare-got w (Client c) (DoneReply cid names) = refl
   bare-got w (Client c) (AnswerReply cid names) = refl
-  bare-got w (Client c) (GossipOf names) = refl
-  bare-got w (Client c) Blank = refl
+  bare-got w _ _ = refl
 
   -- what comes changes them alike, where it came
   bare-came : (w : Facts Op) (read : Facts Op → Actor → Carried Op → Facts Op)
@@ -78,10 +66,16 @@ module _ {Value Op : Type 0} (m : Meaning Value Op) (config : Config) where
   bare-line : (x : Handling Op) (w : Facts Op) (line : Outcome) → bare (line_read m config x (bare w) line) ≡ bare (line_read m config x w line)
   bare-line x w (Send number from to what) = ap (λ (load : Carried Op). bare (record w { messages = record { number = number; from = from; to = to; what = load } ∷ w.messages })) (bare-carried w from what)
   bare-line x w (Accept spot cid) = bare-came w (λ v. accept_read v spot) (bare-accept w spot) x.came
+  bare-line x w (Note spot cid) = bare-came w (λ v. note_read v spot) (bare-note w spot) x.came
   bare-line x w (Hold cid) = bare-came w hold_read (bare-hold w) x.came
   bare-line x w (Take count) = bare-came w take_read (bare-take w) x.came
   bare-line x w (Got cid) = bare-came w got_read (bare-got w) x.came
   bare-line x w (Stale cid) = refl
+  bare-line x w (ClockAt reading) = bare-clock (replica_in x.actor)
+    where
+      bare-clock : (o : Option ℕ) → bare (at_replica (bare w) o (λ i. clock_set (bare w) i reading)) ≡ bare (at_replica w o (λ i. clock_set w i reading))
+      bare-clock None = refl
+      bare-clock (Some i) = refl
   bare-line x w (NoMessage message) = refl
   bare-line x w (Refuse why) = refl
   bare-line x w (State line) = refl
@@ -110,13 +104,19 @@ module _ {Value Op : Type 0} (m : Meaning Value Op) (config : Config) where
 module _ {Op : Type 0} where
   bare-event : (w : Facts Op) (event : Event Op) → bare (event_read (bare w) event) ≡ bare (event_read w event)
   bare-event w (Call client replica reading op) = refl
+  bare-event w (Resend client replica reading) = refl
+  bare-event w (AckEvent client replica reading) = refl
   bare-event w (Deliver message) = refl
+  bare-event w (Tick replica reading) = refl
   bare-event w (GossipEvent from to) = refl
   bare-event w (Show replica) = refl
 
   bare-handling : (w : Facts Op) (event : Event Op) → handling (bare w) event ≡ handling w event
   bare-handling w (Call client replica reading op) = refl
+  bare-handling w (Resend client replica reading) = refl
+  bare-handling w (AckEvent client replica reading) = refl
   bare-handling w (Deliver message) = refl
+  bare-handling w (Tick replica reading) = refl
   bare-handling w (GossipEvent from to) = refl
   bare-handling w (Show replica) = refl
 

@@ -34,6 +34,10 @@ impl<O: Operation> Load<O> {
                 let call = call.copy()?;
                 Ok(Load::Query { call })
             }
+            Load::Ack { cid, time } => Ok(Load::Ack {
+                cid: *cid,
+                time: *time,
+            }),
             Load::Done { cid, names } => {
                 let names = names.copy()?;
                 Ok(Load::Done { cid: *cid, names })
@@ -91,6 +95,7 @@ impl<O: Operation> FrontNow<O> {
             calls: self.calls,
             clock: self.clock,
             open_call,
+            answered: self.answered,
         })
     }
 }

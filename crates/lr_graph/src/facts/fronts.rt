@@ -1,7 +1,7 @@
 //! What a front end does, as far as a history's facts say it.
 ghost use Rattle.std.specs.Prelude.{◌≡◌, ◌==◌, ◌^◌, None, IfOk};
-ghost use Rattle.lr_graph.specs.After.{call_read};
-ghost use Rattle.lr_graph.specs.Sets.{◌∪◌};
+ghost use Rattle.std.specs.Option.{option_or};
+ghost use Rattle.lr_graph.specs.After.{call_read, clock_read, replied};
 ghost use Rattle.lr_graph.specs.Told.{front_of, first_front as none_called, set_of};
 
 use crate::facts::items::{CallCopy, FrontNow};
@@ -22,6 +22,27 @@ pub fn first_front<O: Drop>(alloc: Global) -> FrontNow<O>
         calls: 0,
         clock: 0,
         open_call: None,
+        answered: None,
+    }
+}
+
+/// A front end after a clock reading.
+pub fn after_reading<O: Drop>(front: FrontNow<O>, reading: u64) -> FrontNow<O>
+    ensures { front_of result ≡ clock_read reading (front_of front) }
+{
+    let FrontNow {
+        label,
+        calls,
+        clock,
+        open_call,
+        answered,
+    } = front;
+    FrontNow {
+        label,
+        calls,
+        clock: clock.max(reading),
+        open_call,
+        answered,
     }
 }
 
@@ -41,6 +62,7 @@ pub fn after_call<O: Operation>(
         calls,
         clock,
         open_call,
+        answered,
     } = front;
     let clock = clock.max(reading);
     if open_call.is_some() || calls >= MOST_CALLS {
@@ -49,6 +71,7 @@ pub fn after_call<O: Operation>(
             calls,
             clock,
             open_call,
+            answered,
         });
     }
     let calls = calls + 1;
@@ -63,22 +86,26 @@ pub fn after_call<O: Operation>(
         calls,
         clock,
         open_call: Some(call),
+        answered,
     })
 }
 
-/// A front end after it took the reply to its open call, which stands for these spots.
+/// A front end after it took the reply to its open call, which stands for these spots; the call is this one if it is an
+/// update.
 pub fn after_reply<O: Operation>(
     front: FrontNow<O>,
     names: &SpotList,
+    update: Option<Cid>,
 ) -> Result<FrontNow<O>, NoMemory>
     ensures { IfOk result (λ after. front_of after
-        ≡ record (front_of front) { label = (front_of front).label ∪ set_of names.now; open_call = None }) }
+        ≡ replied (set_of names.now) (option_or update (front_of front).answered) (front_of front)) }
 {
     let FrontNow {
         mut label,
         calls,
         clock,
         open_call: _open_call,
+        answered,
     } = front;
     add_all(&mut label, names)?;
     Ok(FrontNow {
@@ -86,5 +113,6 @@ pub fn after_reply<O: Operation>(
         calls,
         clock,
         open_call: None,
+        answered: update.or(answered),
     })
 }

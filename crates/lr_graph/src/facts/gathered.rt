@@ -1,11 +1,11 @@
 //! The facts of a history so far: what they say, and how they change.
 ghost use Rattle.std.specs.Prelude.{◌≡◌, ◌∷◌, IfOk, OnOk};
-ghost use Rattle.std.specs.Option.{option_map};
+ghost use Rattle.std.specs.Option.{option_map, option_or};
 ghost use Rattle.lr_base.specs.declared.names.Actor.TheVariants.{Replica};
 ghost use Rattle.lr_graph.specs.After.{accepts, carried, copy_of};
 ghost use Rattle.lr_graph.specs.After.{ready_at, received_at, take_read, takes_reply};
 ghost use Rattle.lr_graph.specs.Graph.{first_facts, ready, GossipOf, QueryCopy, UpdateCopy};
-ghost use Rattle.lr_graph.specs.Sets.{put_at};
+ghost use Rattle.lr_graph.specs.Sets.{only, put_at, ◌∪◌};
 ghost use Rattle.lr_graph.specs.Told.{call_of, front_of, fronts_in, load_of, received_in, set_of, told};
 
 use crate::facts::causes::{below_of, ready_spots};
@@ -15,7 +15,7 @@ use crate::facts::newest::Newest;
 use crate::facts::spots::{SpotList, add_all};
 use crate::facts::table::Table;
 use lr_base::lr_service::Operation;
-use lr_base::{Actor, NoMemory, Sent, Spot};
+use lr_base::{Actor, Cid, NoMemory, Sent, Spot};
 use std::alloc::Global;
 
 impl<O: Drop> Gathered<O> {
@@ -72,6 +72,7 @@ impl<O: Operation> Gathered<O> {
             calls: _calls,
             clock: _clock,
             open_call,
+            answered: _answered,
         } = front;
         Ok(open_call)
     }
@@ -89,6 +90,10 @@ impl<O: Operation> Gathered<O> {
                 let call = self.open_call(alloc, cid.client)?;
                 Ok(query_of(call))
             }
+            Sent::Ack { cid, time } => Ok(Load::Ack {
+                cid: *cid,
+                time: *time,
+            }),
             Sent::Done { cid, spot } => {
                 let names = below_of(alloc, self.accepted.as_slice(), *spot)?;
                 Ok(Load::Done { cid: *cid, names })
@@ -177,9 +182,7 @@ impl<O: Operation> Gathered<O> {
     ) -> Result<(), NoMemory>
         ensures { OnOk result (told self.new ≡ accepts (told self.old) replica spot (call_of call.now)) }
     {
-        let mut received = self.received_at(alloc, replica)?;
-        received.add(spot)?;
-        self.set_received(replica, received)?;
+        self.receive(alloc, replica, spot)?;
         let mut below = call.label.copy()?;
         below.add(spot)?;
         let op = call.op.copy()?;
@@ -189,6 +192,17 @@ impl<O: Operation> Gathered<O> {
             op,
             below,
         })
+    }
+
+    // A replica receives one item more.
+    pub fn receive(&mut self, alloc: Global, replica: u8, spot: Spot) -> Result<(), NoMemory>
+        ensures { OnOk result (told self.new ≡ record (told self.old) {
+          received = put_at replica ((told self.old).received replica ∪ only spot) (told self.old).received;
+        }) }
+    {
+        let mut received = self.received_at(alloc, replica)?;
+        received.add(spot)?;
+        self.set_received(replica, received)
     }
 
     // A replica receives what gossip carries.
@@ -201,17 +215,19 @@ impl<O: Operation> Gathered<O> {
         self.set_received(replica, received)
     }
 
-    // A front end takes the reply to its open call.
+    // A front end takes the reply to its open call, which is this one if it is an update.
     pub fn take_reply(
         &mut self,
         alloc: Global,
         client: u32,
         names: &SpotList,
+        update: Option<Cid>,
     ) -> Result<(), NoMemory>
-        ensures { OnOk result (told self.new ≡ takes_reply (told self.old) client (set_of names.now)) }
+        ensures { OnOk result (told self.new ≡ takes_reply (told self.old) client (set_of names.now)
+            (option_or update ((told self.old).front client).answered)) }
     {
         let front = self.front_at(alloc, client)?;
-        let front = after_reply(front, names)?;
+        let front = after_reply(front, names, update)?;
         self.set_front(client, front)
     }
 }

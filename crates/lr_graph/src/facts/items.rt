@@ -26,6 +26,7 @@ pub struct AcceptedUpdate<O> {
 pub enum Load<O> {
     Update { call: CallCopy<O>, time: u64 },
     Query { call: CallCopy<O> },
+    Ack { cid: Cid, time: u64 },
     Done { cid: Cid, names: SpotList },
     Answer { cid: Cid, names: SpotList },
     Gossip { names: SpotList },
@@ -48,13 +49,14 @@ pub struct Handled<O> {
     pub came: Option<SentCopy<O>>,
 }
 
-/// A front end: what its label names, how many calls it made, its clock and its open call.
+/// A front end: what its label names, how many calls it made, its clock, its open call, and its last answered update.
 #[derive(Drop)]
 pub struct FrontNow<O> {
     pub label: SpotList,
     pub calls: u64,
     pub clock: u64,
     pub open_call: Option<CallCopy<O>>,
+    pub answered: Option<Cid>,
 }
 
 /// The facts of a history so far: what was accepted and sent, what each replica received, and each front end.

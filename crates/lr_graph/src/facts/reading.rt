@@ -2,12 +2,13 @@
 ghost use Rattle.std.specs.Prelude.{◌≡◌, ◌==◌, Some, None, IfOk, OnOk, find};
 ghost use Rattle.std.specs.Option.{option_copied, option_map};
 ghost use Rattle.lr_graph.specs.After.{after, delivery_of, event_read, handling, line_read, lines_read};
-ghost use Rattle.lr_graph.specs.After.{accept_read, acting, got_read, receiver, take_read};
+ghost use Rattle.lr_graph.specs.After.{clock_read, with_front};
+ghost use Rattle.lr_graph.specs.After.{accept_read, acting, got_read, note_read, receiver, take_read};
 ghost use Rattle.lr_graph.specs.Central.{facts_after};
 ghost use Rattle.lr_graph.specs.Graph.{Facts, first_facts};
 ghost use Rattle.lr_graph.specs.Told.{bare, handling_of, load_of, sent_message_of, told};
 
-use crate::facts::fronts::after_call;
+use crate::facts::fronts::{after_call, after_reading};
 use crate::facts::items::{Gathered, Handled, Load, SentCopy};
 use lr_base::lr_service::{Operation, Service};
 use lr_base::{Actor, Config, Event, NoMemory, Outcome, Spot, Step};
@@ -29,13 +30,27 @@ impl<O: Operation> Gathered<O> {
                 let front = after_call(*client, *reading, op, front)?;
                 self.set_front(*client, front)
             }
-            Event::Deliver { message: _message } => Ok(()),
-            Event::Gossip {
-                from: _from,
-                to: _to,
-            } => Ok(()),
-            Event::Show { replica: _replica } => Ok(()),
+            Event::Resend {
+                client,
+                replica: _replica,
+                reading,
+            } => self.read_clock(alloc, *client, *reading),
+            Event::Ack {
+                client,
+                replica: _replica,
+                reading,
+            } => self.read_clock(alloc, *client, *reading),
+            _ => Ok(()),
         }
+    }
+
+    // A front end reads its clock.
+    fn read_clock(&mut self, alloc: Global, client: u32, reading: u64) -> Result<(), NoMemory>
+        ensures { let w = told self.old in
+            OnOk result (told self.new ≡ with_front w client (clock_read reading (w.front client))) }
+    {
+        let front = self.front_at(alloc, client)?;
+        self.set_front(client, after_reading(front, reading))
     }
 
     // The message that an event delivers, if there is one.
@@ -44,17 +59,7 @@ impl<O: Operation> Gathered<O> {
     {
         match event {
             Event::Deliver { message } => copy_numbered(self.messages.as_slice(), *message),
-            Event::Call {
-                client: _client,
-                replica: _replica,
-                reading: _reading,
-                op: _op,
-            } => Ok(None),
-            Event::Gossip {
-                from: _from,
-                to: _to,
-            } => Ok(None),
-            Event::Show { replica: _replica } => Ok(None),
+            _ => Ok(None),
         }
     }
 
@@ -76,17 +81,24 @@ impl<O: Operation> Gathered<O> {
         };
         match &came.load {
             Load::Update { call, time: _time } => self.accept(alloc, replica, spot, call),
-            Load::Query { call: _call } => Ok(()),
-            Load::Done {
+            _ => Ok(()),
+        }
+    }
+
+    // `note`: a replica that an acknowledgement came to notes it.
+    fn read_note(&mut self, alloc: Global, spot: Spot, came: &SentCopy<O>) -> Result<(), NoMemory>
+        ensures { OnOk result (told self.new
+            ≡ bare (note_read (told self.old) spot came.now.to (load_of came.now.load))) }
+    {
+        let Actor::Replica(replica) = came.to else {
+            return Ok(());
+        };
+        match &came.load {
+            Load::Ack {
                 cid: _cid,
-                names: _names,
-            } => Ok(()),
-            Load::Answer {
-                cid: _cid,
-                names: _names,
-            } => Ok(()),
-            Load::Gossip { names: _names } => Ok(()),
-            Load::Nothing => Ok(()),
+                time: _time,
+            } => self.receive(alloc, replica, spot),
+            _ => Ok(()),
         }
     }
 
@@ -99,20 +111,7 @@ impl<O: Operation> Gathered<O> {
         };
         match &came.load {
             Load::Gossip { names } => self.take(alloc, replica, names),
-            Load::Update {
-                call: _call,
-                time: _time,
-            } => Ok(()),
-            Load::Query { call: _call } => Ok(()),
-            Load::Done {
-                cid: _cid,
-                names: _names,
-            } => Ok(()),
-            Load::Answer {
-                cid: _cid,
-                names: _names,
-            } => Ok(()),
-            Load::Nothing => Ok(()),
+            _ => Ok(()),
         }
     }
 
@@ -124,15 +123,9 @@ impl<O: Operation> Gathered<O> {
             return Ok(());
         };
         match &came.load {
-            Load::Done { cid: _cid, names } => self.take_reply(alloc, client, names),
-            Load::Answer { cid: _cid, names } => self.take_reply(alloc, client, names),
-            Load::Update {
-                call: _call,
-                time: _time,
-            } => Ok(()),
-            Load::Query { call: _call } => Ok(()),
-            Load::Gossip { names: _names } => Ok(()),
-            Load::Nothing => Ok(()),
+            Load::Done { cid, names } => self.take_reply(alloc, client, names, Some(*cid)),
+            Load::Answer { cid: _cid, names } => self.take_reply(alloc, client, names, None),
+            _ => Ok(()),
         }
     }
 }
@@ -160,11 +153,8 @@ fn read_of_message<S: Service>(
         Outcome::Accept { spot, cid: _cid } => facts.read_accept(alloc, *spot, came),
         Outcome::Take { count: _count } => facts.read_take(alloc, came),
         Outcome::Got { cid: _cid } => facts.read_got(alloc, came),
-        Outcome::Hold { cid: _cid } => Ok(()),
-        Outcome::Stale { cid: _cid } => Ok(()),
-        Outcome::NoMessage { message: _message } => Ok(()),
-        Outcome::Refuse { why: _why } => Ok(()),
-        Outcome::State { line: _line } => Ok(()),
+        Outcome::Note { spot, cid: _cid } => facts.read_note(alloc, *spot, came),
+        _ => Ok(()),
     }
 }
 
@@ -186,17 +176,7 @@ fn read_alone<S: Service>(
             to,
             what,
         } => facts.send(alloc, *number, *from, *to, what),
-        Outcome::Accept {
-            spot: _spot,
-            cid: _cid,
-        } => Ok(()),
-        Outcome::Take { count: _count } => Ok(()),
-        Outcome::Got { cid: _cid } => Ok(()),
-        Outcome::Hold { cid: _cid } => Ok(()),
-        Outcome::Stale { cid: _cid } => Ok(()),
-        Outcome::NoMessage { message: _message } => Ok(()),
-        Outcome::Refuse { why: _why } => Ok(()),
-        Outcome::State { line: _line } => Ok(()),
+        _ => Ok(()),
     }
 }
 
@@ -254,7 +234,21 @@ fn actor_of<O>(event: &Event<O>, came: &Option<SentCopy<O>>) -> Option<Actor>
             reading: _reading,
             op: _op,
         } => Some(Actor::Client(*client)),
+        Event::Resend {
+            client,
+            replica: _replica,
+            reading: _reading,
+        } => Some(Actor::Client(*client)),
+        Event::Ack {
+            client,
+            replica: _replica,
+            reading: _reading,
+        } => Some(Actor::Client(*client)),
         Event::Deliver { message: _message } => receiver_of(came),
+        Event::Tick {
+            replica,
+            reading: _reading,
+        } => Some(Actor::Replica(*replica)),
         Event::Gossip { from, to: _to } => Some(Actor::Replica(*from)),
         Event::Show { replica: _replica } => None,
     }

@@ -1,0 +1,5 @@
+-- Times of copies and of acknowledgements.
+pub mod Changes
+pub mod Keeping
+pub mod Steps
+pub mod Along
