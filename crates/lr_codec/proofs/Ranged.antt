@@ -19,7 +19,7 @@ use Rattle.lr_codec.specs.declared.state.StableState.{StableState}
 use Rattle.lr_codec.specs.Lists.{calls_format, entry_count_format, entry_format, item_format, log_format, marks_format}
 use Rattle.lr_codec.specs.Lists.{is_next_spot, merged, order_format, spot_format, tag_format}
 use Rattle.lr_codec.specs.Parts.{byte_where, cid_format, is_update, op_format, part_format, stamp_format, value_format}
-use Rattle.lr_codec.specs.Ranges.{is_in_ranges, unchecked, unchecked_values}
+use Rattle.lr_codec.specs.Ranges.{is_in_ranges, unchecked}
 use Rattle.lr_codec.specs.States.{free_cid_format, frozen_number_format, may_freeze}
 use Rattle.lr_codec.specs.States.{Whose, front_format, front_of, frozen_format, head_format, head_of, is_count_of}
 use Rattle.lr_codec.specs.States.{is_replica_of, lists_format, lists_of, magic, stamps_format, stamps_of, state_format}

@@ -3,9 +3,7 @@ use Rattle.std.proofs.Common.{◌≡◌, ◌+◌, ◌==◌, ◌&&◌, ◌||◌, 
 use Rattle.std.proofs.Common.{refl, sym, ◌∙◌, ap}
 use Rattle.std.specs.Prelude.{Option, Some, None, ◌⊎◌}
 use mathlib.Core.Logic.{inl, inr}
-use Rattle.std.proofs.Common.{arith}
 use Rattle.std.proofs.lemmas.Bool.{and_parts, and_from, eqb-true}
-use Rattle.std.proofs.lemmas.Bool.Decides.{nat_tests}
 use Rattle.lr_base.specs.NameLaws.{before-once, before-trans}
 use Rattle.lr_base.specs.Ascending.{is_before}
 use Rattle.lr_base.specs.Bytes.{each_may}

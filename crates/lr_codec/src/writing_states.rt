@@ -52,9 +52,10 @@ fn put_flag(flag: bool, out: &mut Text) -> Result<(), NoMemory>
     }
 }
 
-// Adds the clock and the views behind `out`.
-fn put_views(head: Head, views: Views, out: &mut Text) -> Result<(), NoMemory>
-    ensures { OnOk result (out.new ≡ out.old ++ (views_format head).written views) }
+// Adds the clock and the views behind `out`. They are written alike of each configuration and replica.
+fn put_views(views: Views, out: &mut Text) -> Result<(), NoMemory>
+    ensures { OnOk result (out.new
+        ≡ out.old ++ (views_format (record { replicas = 1; me = 0 })).written views) }
 {
     put_number_field(views.clock, out)?;
     put_number_field(views.view, out)?;
@@ -88,7 +89,7 @@ fn put_front<S: Service>(state: &StableState<S>, out: &mut Text) -> Result<(), N
         opened: state.opened,
     };
     put_head::<S>(head, out)?;
-    put_views(head, views, out)?;
+    put_views(views, out)?;
     put_stamps(state, out)?;
     put_rows(&StampRows { parts: 0 }, state.table.as_slice(), out)
 }

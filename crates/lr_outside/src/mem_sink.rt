@@ -1,5 +1,5 @@
 //! A sink in memory, whose failures are known beforehand.
-ghost use Rattle.std.specs.Prelude.{◌≡◌, ◌<◌, ◌++◌, ◌⊎◌, [], length, IsTrue, IsErr, IfOk, OnOk, OnErr};
+ghost use Rattle.std.specs.Prelude.{◌≡◌, ◌<◌, ◌≤◌, ◌+◌, ◌++◌, ◌⊎◌, [], length, IsTrue, IsErr, IfOk, OnOk, OnErr};
 ghost use Rattle.lr_outside.specs.Calls.{IsWriteCall};
 ghost use Rattle.lr_outside.specs.Faults.{one_more};
 ghost use Rattle.lr_outside.specs.Memory.{is_listed, store_seen};
@@ -69,16 +69,18 @@ impl Sink for MemSink {
         ensures lacking { OnErr result (IsTrue (is_listed self.old.failing (one_more self.old.calls))
             ⊎ (self.old.room < length piece.now)) }
         ensures whole { IfOk result (λ n. n ≡ length piece.now) }
-        ensures ok { OnOk result (self.new ≡ record self.old {
+
+        // What is held takes up room, and nothing else does.
+        ensures ok { OnOk result ((self.old.room ≤ self.new.room + length piece.now) × (self.new ≡ record self.old {
           held = self.old.held ++ piece.now;
           room = self.new.room;
           calls = one_more self.old.calls;
-        }) }
-        ensures err { OnErr result (self.new ≡ record self.old {
+        })) }
+        ensures err { OnErr result ((self.old.room ≤ self.new.room) × (self.new ≡ record self.old {
           room = self.new.room;
           calls = one_more self.old.calls;
           faults = one_more self.old.faults;
-        }) }
+        })) }
     {
         self.calls = self.calls.saturating_add(1);
         if self.failing.as_slice().contains(&self.calls) {
