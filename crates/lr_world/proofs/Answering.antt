@@ -1,14 +1,16 @@
 -- The held queries of a replica: those that are answered, and those that stay.
-use Rattle.std.proofs.Common.{◌≡◌, ◌+◌, ℕ, zero, suc, Bool, true, false, ◌==◌, if◌then◌else◌, List, [], ◌∷◌, ◌++◌, length, refl, sym, ap, ◌∙◌, subst, ◌<◌, take, get_or}
+use Rattle.std.proofs.Common.{◌≡◌, ◌+◌, ℕ, zero, suc, Bool, true, false, ◌==◌, if◌then◌else◌, List, [], ◌∷◌, ◌++◌, length, Option, Some, None, refl, sym, ap, ◌∙◌, subst, ◌<◌, take, get_or}
 use Rattle.std.proofs.lemmas.List.{take_more}
 use Rattle.std.specs.Prelude.{filter}
 use Rattle.lr_base.specs.Meaning.{Meaning}
 use Rattle.lr_base.specs.Rules.{CausalState, pruned}
 use Rattle.lr_base.specs.Stamps.{stamp_le}
-use Rattle.lr_base.specs.Steps.{answer_act, held_acts}
+use Rattle.lr_base.specs.Steps.{ack_taken, answer_act, held_acts}
 use Rattle.lr_base.specs.declared.acts.Act.{Act}
 use Rattle.lr_base.specs.declared.lr_service.Kind.{Kind}
 use Rattle.lr_base.specs.declared.messages.Call.{Call}
+use Rattle.lr_base.specs.declared.messages.LogAck.{LogAck}
+use Rattle.lr_base.specs.declared.names.Cid.{Cid}
 use Rattle.lr_base.specs.declared.names.Config.{Config}
 use Rattle.lr_causal.specs.Causal.{NoneApplied}
 use Rattle.lr_causal.specs.Savepoint.{IsPointOf, Saved}
@@ -35,6 +37,14 @@ module _ {Op : Type 0} (kind_of : Op → Kind) (config : Config) where
 -- the same queries under other names
 pub AllAsked-along : {Op : Type 0} (kind_of : Op → Kind) (config now : Config) (calls same : List (Call Op)) → now ≡ config → same ≡ calls → AllAsked kind_of config calls → AllAsked kind_of now same
 AllAsked-along kind_of config now calls same setting is all = rw (setting, is) all
+
+-- an acknowledgement leaves the held queries as they are
+pub ack-holds : {Value Op : Type 0} (me : ℕ) (state next : CausalState Value Op) (cid : Cid) (time : ℕ) (logged : Option LogAck) (room number : Bool)
+    → next ≡ (ack_taken me state cid time logged room number).state → next.held ≡ state.held
+ack-holds me state next cid time (Some ack) room number is = ap (λ s. s.held) is
+ack-holds me state next cid time None false number is = ap (λ s. s.held) is
+ack-holds me state next cid time None true false is = ap (λ s. s.held) is
+ack-holds me state next cid time None true true is = ap (λ s. s.held) is
 
 -- the first of them
 pub AllAsked-take : {Op : Type 0} (kind_of : Op → Kind) (config : Config) (count : ℕ) (calls : List (Call Op)) → AllAsked kind_of config calls → AllAsked kind_of config (take count calls)

@@ -9,7 +9,7 @@ use Rattle.lr_base.specs.Replicas.{ReplicaState}
 use Rattle.lr_base.specs.Rules.{CausalState, fresh_of, fresh_when, is_late, known_of, stamp_of, taken_before, update_of_call}
 use Rattle.lr_base.specs.StampLaws.{length-join, length-set_part}
 use Rattle.lr_base.specs.Stamps.{join, stamp_le}
-use Rattle.lr_base.specs.Steps.{answer_act, call_taken, done_act, gossip_given, has_number, has_room, held_acts, own_taken, query_held, query_taken, update_taken}
+use Rattle.lr_base.specs.Steps.{ack_taken, answer_act, call_taken, done_act, gossip_given, has_number, has_room, held_acts, own_taken, query_held, query_taken, update_taken}
 use Rattle.lr_base.specs.declared.lr_service.Kind.{Kind}
 use Rattle.lr_base.specs.declared.messages.Call.{Call}
 use Rattle.lr_base.specs.declared.messages.Fresh.{Fresh}
@@ -19,19 +19,21 @@ use Rattle.lr_base.specs.declared.messages.Known.{Known}
 use Rattle.lr_base.specs.declared.messages.LogAck.{LogAck}
 use Rattle.lr_base.specs.declared.messages.LogUpdate.{LogUpdate}
 use Rattle.lr_base.specs.declared.messages.Message.{Message}
-use Rattle.lr_base.specs.declared.messages.Message.TheVariants.{Answer, Done, Gossip as GossipMessage, Query, Update}
+use Rattle.lr_base.specs.declared.messages.Message.TheVariants.{Ack, Answer, Done, Gossip as GossipMessage, Query, Update}
 use Rattle.lr_base.specs.declared.names.Actor.{Actor}
 use Rattle.lr_base.specs.declared.names.Actor.TheVariants.{Client, Replica}
 use Rattle.lr_base.specs.declared.names.Cid.{Cid}
 use Rattle.lr_base.specs.declared.names.Config.{Config}
 use Rattle.lr_base.specs.declared.names.Spot.{Spot}
 use Rattle.lr_causal.specs.Causal.{AgainHasParts}
-use Rattle.lr_world.proofs.Shaped.{fitting-append, shaped-plain}
+use Rattle.lr_base.specs.Rules.{gossip_of}
+use Rattle.lr_causal.specs.Causal.{IsGossip}
+use Rattle.lr_world.proofs.Shaped.{fitting-append, one-stamp}
 use Rattle.lr_world.specs.Parts.{IsTask, begun, own_of, settled}
 use Rattle.lr_world.specs.Shapes.{AllFitting, IsFitting, IsShaped}
 use Rattle.lr_world.specs.Sound.{AllAsked, IsSound}
 use Rattle.lr_world.specs.declared.task.Task.{Task}
-use Rattle.lr_world.specs.declared.task.Task.TheVariants.{Take, Tell}
+use Rattle.lr_world.specs.declared.task.Task.TheVariants.{Take, Read, Tell}
 
 -- the first logged update that passes a test can be applied
 logged-find : {Op : Type 0} (kind_of : Op → Kind) (parts : ℕ) (test : LogUpdate Op → Bool) (updates : List (LogUpdate Op)) → AllLogged kind_of parts updates → ForSome (find test updates) (IsLogged kind_of parts)
@@ -56,14 +58,14 @@ module _ {Value Op : Type 0} (kind_of : Op → Kind) (r : ReplicaState Value Op)
   fitting-done : (cid : Cid) (spot : Spot) (stamp : List ℕ) → cid.client < config.clients → length stamp ≡ parts → IsFitting kind_of config (done_act {Op = Op} cid spot stamp)
   fitting-done cid spot stamp client long = record {
     to_known = lt-ltb cid.client config.clients client;
-    shaped = shaped-plain kind_of config (Done cid spot stamp) refl refl long (lt-ltb cid.client config.clients client) refl;
+    shaped = record { client = lt-ltb cid.client config.clients client; kind = refl; stamps = one-stamp kind_of config stamp long; told = λ g e. absurd (cc) };
   }
 
   -- the answer to a query of one of the clients
   fitting-answer : (m : Meaning Value Op) (call : Call Op) → call.cid.client < config.clients → IsFitting kind_of config (answer_act m state call)
   fitting-answer m call client = record {
     to_known = lt-ltb call.cid.client config.clients client;
-    shaped = shaped-plain kind_of config (Answer call.cid (m.read state.value call.op) state.val_ts) refl refl sound.val_parts (lt-ltb call.cid.client config.clients client) refl;
+    shaped = record { client = lt-ltb call.cid.client config.clients client; kind = refl; stamps = one-stamp kind_of config state.val_ts sound.val_parts; told = λ g e. absurd (cc) };
   }
 
   -- the stamp of a call that was taken before
@@ -119,19 +121,27 @@ module _ {Value Op : Type 0} (kind_of : Op → Kind) (r : ReplicaState Value Op)
   fitting-query m call true client = (fitting-answer m call client, tt)
   fitting-query m call false client = fitting-held call (nat_lt (length state.held) 1024)
 
+  fitting-ack : (cid : Cid) (time : ℕ) (logged : Option LogAck) (room number : Bool) → AllFitting {Op = Op} kind_of config (ack_taken r.me state cid time logged room number).acts
+  fitting-ack cid time (Some ack) room number = (tt, tt)
+  fitting-ack cid time None false number = (tt, tt)
+  fitting-ack cid time None true false = (tt, tt)
+  fitting-ack cid time None true true = (tt, tt)
+
   fitting-gossip : (from : ℕ) (gossip : Gossip Op) (own : Bool) → AllFitting kind_of config (gossip_given from state gossip own).acts
   fitting-gossip from gossip true = tt
   fitting-gossip from gossip false = (tt, tt)
 
   -- what a message makes a replica send itself
   fitting-taken : (m : Meaning Value Op) (from : Actor) (message : Message Op) → IsShaped kind_of config message → AllFitting kind_of config (own_taken m config r.me state from message).acts
-  fitting-taken m (Client client) (Update call time) shaped = fitting-update call (fresh_of config.delta state call.cid time) (again-parts config.delta call.cid time) shaped.told.rep_parts (ltb-true _ _ shaped.client)
+  fitting-taken m (Client client) (Update call time) shaped = fitting-update call (fresh_of config.delta state call.cid time) (again-parts config.delta call.cid time) (shaped.stamps 0 call.prev refl) (ltb-true _ _ shaped.client)
   fitting-taken m (Client client) (Query call) shaped = fitting-query m call (stamp_le call.prev state.val_ts) (ltb-true _ _ shaped.client)
+  fitting-taken m (Client client) (Ack cid time) shaped = fitting-ack cid time (find (λ ack. same_cid ack.cid cid) state.acks) (has_room state) (has_number r.me state)
   fitting-taken m (Client client) (Done cid spot stamp) shaped = tt
   fitting-taken m (Client client) (Answer cid text stamp) shaped = tt
   fitting-taken m (Client client) (GossipMessage gossip) shaped = tt
   fitting-taken m (Replica from) (Update call time) shaped = tt
   fitting-taken m (Replica from) (Query call) shaped = tt
+  fitting-taken m (Replica from) (Ack cid time) shaped = tt
   fitting-taken m (Replica from) (Done cid spot stamp) shaped = tt
   fitting-taken m (Replica from) (Answer cid text stamp) shaped = tt
   fitting-taken m (Replica from) (GossipMessage gossip) shaped = fitting-gossip from gossip (from == r.me)
@@ -139,10 +149,11 @@ module _ {Value Op : Type 0} (kind_of : Op → Kind) (r : ReplicaState Value Op)
   -- what a task makes it send itself
   pub fitting-own : (m : Meaning Value Op) (task : Task Op) → IsTask kind_of config task → AllFitting kind_of config (own_of m r task).acts
   fitting-own m (Take from message) fits = fitting-taken m from message.now fits.1
+  fitting-own m (Read reading) fits = (tt, tt)
   fitting-own m (Tell to) fits = (
     record {
       to_known = lt-ltb to config.replicas fits;
-      shaped = record { client = refl; kind = refl; told = sound.told };
+      shaped = record { client = refl; kind = refl; stamps = one-stamp kind_of config state.rep_ts sound.told.rep_parts; told = λ g e. let same : gossip_of state ≡ g = cc in subst (IsGossip kind_of parts) same sound.told };
     },
     tt,
   )

@@ -1,12 +1,12 @@
 -- A replica and a front end of a run that are read, and what is put in their places.
-use Rattle.std.proofs.Common.{◌≡◌, ◌<◌, ◌∙◌, ℕ, Some, get_or, set, subst, sym}
+use Rattle.std.proofs.Common.{◌≡◌, ◌<◌, ◌∙◌, ℕ, Some, get_or, set}
 use Rattle.std.specs.Prelude.{slice_get}
 use Rattle.std.proofs.lemmas.Option.{slice_get_read}
 use Rattle.lr_base.specs.Fronts.{FrontState}
 use Rattle.lr_base.specs.Replicas.{AllReplicas, IsReplica, ReplicaState}
 use Rattle.lr_causal.specs.Savepoint.{IsSame}
 use Rattle.lr_world.proofs.Everywhere.{each-read, each-set}
-use Rattle.lr_world.specs.Posts.{IsFront}
+use Rattle.lr_world.specs.Posts.{AllFronts, IsFront}
 use Rattle.lr_world.specs.declared.run.Run.{Run}
 
 module _ {S Op : Type 0} {g : _} {h : _} (it : Run S Op g h) where
@@ -27,13 +27,15 @@ module _ {S Op : Type 0} {g : _} {h : _} (it : Run S Op g h) where
       each-set it.replicas.items me next (IsReplica it.config) it.all_replicas
       (record { setting = same.setting ∙ old.setting; number = same.number ∙ old.number })
 
-  -- a front end at its client's place, by the copy that was made of it
-  pub front-read : (client : ℕ) (front copied : FrontState) → client < it.config.clients
-      → front ≡ get_or it.fronts.items client front → copied ≡ front
-      → IsFront it.config client copied × (slice_get it.fronts.items client ≡ Some copied)
-  front-read client front copied known is same =
+  -- a front end at its client's place
+  pub front-read : (client : ℕ) (front : FrontState Op) → client < it.config.clients → front ≡ get_or it.fronts.items client front
+      → IsFront it.config client front × (slice_get it.fronts.items client ≡ Some front)
+  front-read client front known is =
       let within : client < it.fronts.len = rw it.each_client known in (
-        subst (IsFront it.config client) (sym same)
-            (each-read it.fronts.items client front (IsFront it.config) it.all_fronts it.fronts.len it.fronts.ok.0 within is),
-        slice_get_read it.fronts.items it.fronts.len client front it.fronts.ok.0 within is ∙ (λ k. Some (sym same k)),
+        each-read it.fronts.items client front (IsFront it.config) it.all_fronts it.fronts.len it.fronts.ok.0 within is,
+        slice_get_read it.fronts.items it.fronts.len client front it.fronts.ok.0 within is,
       )
+
+  -- in its place another front end of this client
+  pub front-put : (client : ℕ) (next : FrontState Op) → IsFront it.config client next → AllFronts it.config (set it.fronts.items client next)
+  front-put client next is = each-set it.fronts.items client next (IsFront it.config) it.all_fronts is

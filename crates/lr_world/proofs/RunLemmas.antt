@@ -11,7 +11,7 @@ use Rattle.lr_graph.specs.Runs.{first_fronts, first_replicas}
 pub first_replicas-more : {Value Op : Type 0} (m : Meaning Value Op) (config : Config) (k : ℕ) → first_replicas m config k ++ first_replica m config k ∷ [] ≡ first_replicas m config (k + 1)
 first_replicas-more m config k = let next : suc k ≡ k + 1 = omega arith in ap (first_replicas m config) next
 
-pub first_fronts-more : (config : Config) (k : ℕ) → first_fronts config k ++ new_front k (config.replicas + 1) ∷ [] ≡ first_fronts config (k + 1)
+pub first_fronts-more : {Op : Type 0} (config : Config) (k : ℕ) → first_fronts {Op = Op} config k ++ new_front config k ∷ [] ≡ first_fronts config (k + 1)
 first_fronts-more config k = let next : suc k ≡ k + 1 = omega arith in ap (first_fronts config) next
 
 -- what follows of an answer

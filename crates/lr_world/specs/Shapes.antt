@@ -9,52 +9,37 @@ use Rattle.lr_base.specs.declared.names.Actor.TheVariants.{Client, Replica}
 use Rattle.lr_base.specs.declared.names.Config.{Config}
 use Rattle.lr_base.specs.declared.acts.Act.{Act}
 use Rattle.lr_base.specs.declared.acts.Act.TheVariants.{Say, Send}
-use Rattle.lr_base.specs.declared.messages.Gossip.{Gossip}
-use Rattle.lr_base.specs.declared.messages.LogAck.{LogAck}
-use Rattle.lr_base.specs.declared.messages.LogUpdate.{LogUpdate}
 use Rattle.lr_base.specs.declared.messages.Message.{Message}
-use Rattle.lr_base.specs.declared.messages.Message.TheVariants.{Update, Query, Done, Answer, Gossip as GossipMessage}
-use Rattle.lr_causal.specs.Causal.{IsGossip}
+use Rattle.lr_base.specs.declared.messages.Message.TheVariants.{Update, Query, Ack, Done, Answer}
+use Rattle.lr_base.specs.declared.messages.Message.TheVariants.{Gossip as GossipMessage}
+use Rattle.lr_base.specs.declared.messages.Gossip.{Gossip}
+use Rattle.lr_causal.specs.Causal.{AllStamps, IsGossip}
 
--- the stamp that a message carries
+-- the stamps that a message carries: an acknowledgement has none
 -- for example: `[1, 0]` of the reply of `0:1`
-abbrev pub stamp_in : {Op : Type 0} → Message Op → List ℕ
-stamp_in (Update call time) = call.prev
-stamp_in (Query call) = call.prev
-stamp_in (Done cid spot stamp) = stamp
-stamp_in (Answer cid text stamp) = stamp
-stamp_in (GossipMessage gossip) = gossip.rep_ts
+abbrev pub stamps_in : {Op : Type 0} → Message Op → List (List ℕ)
+stamps_in (Update call time) = call.prev ∷ []
+stamps_in (Query call) = call.prev ∷ []
+stamps_in (Ack cid time) = []
+stamps_in (Done cid spot stamp) = stamp ∷ []
+stamps_in (Answer cid text stamp) = stamp ∷ []
+stamps_in (GossipMessage gossip) = gossip.rep_ts ∷ []
 
 -- whether the client whose call a message is about is one of the run's; gossip is about none
 -- for example: `0.1` with one client
 abbrev pub has_client : {Op : Type 0} → Config → Message Op → Bool
 has_client config (Update call time) = nat_lt call.cid.client config.clients
 has_client config (Query call) = nat_lt call.cid.client config.clients
+has_client config (Ack cid time) = nat_lt cid.client config.clients
 has_client config (Done cid spot stamp) = nat_lt cid.client config.clients
 has_client config (Answer cid text stamp) = nat_lt cid.client config.clients
 has_client config (GossipMessage gossip) = true
-
--- the updates that a message tells
--- for example: none of a reply
-abbrev pub updates_in : {Op : Type 0} → Message Op → List (LogUpdate Op)
-updates_in (Update call time) = []
-updates_in (Query call) = []
-updates_in (Done cid spot stamp) = []
-updates_in (Answer cid text stamp) = []
-updates_in (GossipMessage gossip) = gossip.updates
-
--- the acknowledgements that a message tells
-abbrev pub acks_in : {Op : Type 0} → Message Op → List LogAck
-acks_in (Update call time) = []
-acks_in (Query call) = []
-acks_in (Done cid spot stamp) = []
-acks_in (Answer cid text stamp) = []
-acks_in (GossipMessage gossip) = gossip.acks
 
 -- an update message holds an update, and a query message a query
 abbrev pub has_kind : {Op : Type 0} → (Op → Kind) → Message Op → Bool
 has_kind kind_of (Update call time) = not (is_query (kind_of call.op))
 has_kind kind_of (Query call) = is_query (kind_of call.op)
+has_kind kind_of (Ack cid time) = true
 has_kind kind_of (Done cid spot stamp) = true
 has_kind kind_of (Answer cid text stamp) = true
 has_kind kind_of (GossipMessage gossip) = true
@@ -65,17 +50,14 @@ abbrev pub is_actor : Config → Actor → Bool
 is_actor config (Client client) = nat_lt client config.clients
 is_actor config (Replica replica) = nat_lt replica config.replicas
 
--- what a message tells by its stamp, as gossip does
--- for example: `[1, 0]` and no item, of the reply of `0:1`
-abbrev pub told_in : {Op : Type 0} → Message Op → Gossip Op
-told_in message = record { rep_ts = stamp_in message; updates = updates_in message; acks = acks_in message }
-
--- a message of this run: its client is one of the run's, it holds what it is for, and what it tells can be taken
+-- a message of this run: its client is one of the run's, it holds what it is for, each stamp of it has a part for each
+-- place, and what it tells can be taken
 -- for example: 2 parts with one replica
 pub record IsShaped {Op : Type 0} (kind_of : Op → Kind) (config : Config) (message : Message Op) : Type 0 where
   pub client : has_client config message ≡ true
   pub kind : has_kind kind_of message ≡ true
-  pub told : IsGossip kind_of (config.replicas + 1) (told_in message)
+  pub stamps : AllStamps (config.replicas + 1) (stamps_in message)
+  pub told : (gossip : Gossip Op) → message ≡ GossipMessage gossip → IsGossip kind_of (config.replicas + 1) gossip
 
 -- whoever gets a message of this run is one of the run's clients or replicas
 pub record IsSendable {Op : Type 0} (kind_of : Op → Kind) (config : Config) (to : Actor)

@@ -21,7 +21,29 @@ pub fn copy_event<O: Operation>(event: &Event<O>) -> Result<Event<O>, NoMemory>
             reading: *reading,
             op: op.copy()?,
         },
+        Event::Resend {
+            client,
+            replica,
+            reading,
+        } => Event::Resend {
+            client: *client,
+            replica: *replica,
+            reading: *reading,
+        },
+        Event::Ack {
+            client,
+            replica,
+            reading,
+        } => Event::Ack {
+            client: *client,
+            replica: *replica,
+            reading: *reading,
+        },
         Event::Deliver { message } => Event::Deliver { message: *message },
+        Event::Tick { replica, reading } => Event::Tick {
+            replica: *replica,
+            reading: *reading,
+        },
         Event::Gossip { from, to } => Event::Gossip {
             from: *from,
             to: *to,
@@ -60,10 +82,15 @@ fn copy_outcome(outcome: &Outcome) -> Result<Outcome, NoMemory>
             spot: *spot,
             cid: *cid,
         },
+        Outcome::Note { spot, cid } => Outcome::Note {
+            spot: *spot,
+            cid: *cid,
+        },
         Outcome::Hold { cid } => Outcome::Hold { cid: *cid },
         Outcome::Take { count } => Outcome::Take { count: *count },
         Outcome::Got { cid } => Outcome::Got { cid: *cid },
         Outcome::Stale { cid } => Outcome::Stale { cid: *cid },
+        Outcome::ClockAt { reading } => Outcome::ClockAt { reading: *reading },
         Outcome::NoMessage { message } => Outcome::NoMessage { message: *message },
         Outcome::Refuse { why } => Outcome::Refuse { why: *why },
         Outcome::State { line } => Outcome::State {
@@ -81,6 +108,10 @@ fn copy_sent(sent: &Sent) -> Result<Sent, NoMemory>
             time: *time,
         },
         Sent::Query { cid } => Sent::Query { cid: *cid },
+        Sent::Ack { cid, time } => Sent::Ack {
+            cid: *cid,
+            time: *time,
+        },
         Sent::Done { cid, spot } => Sent::Done {
             cid: *cid,
             spot: *spot,

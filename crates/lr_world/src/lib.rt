@@ -2,8 +2,8 @@
 #![tactic(auto)]
 
 mod copies;
-mod front;
 mod front_steps;
+mod front_task;
 mod outbox;
 mod pending;
 mod replica;

@@ -4,7 +4,9 @@ ghost use Rattle.lr_graph.specs.Runs.{sent_of_message};
 ghost use Rattle.lr_world.specs.Outboxes.{Outboxed, after_acts, opened};
 
 use lr_base::lr_service::Operation;
-use lr_base::{Act, Actor, Message, NoMemory, Outcome, Posted, Rows, Sent};
+use lr_base::{
+    Act, Actor, Cid, Message, NoMemory, Outcome, Posted, Refusal, Rows, Sent, Spot, Stamp,
+};
 use std::alloc::Global;
 use std::marker::Model;
 
@@ -99,6 +101,31 @@ impl<O: Operation> Outbox<O> {
     }
 }
 
+/// Nothing is done, and this is why.
+pub fn refuse<O: Operation>(why: Refusal, out: &mut Outbox<O>) -> Result<(), NoMemory>
+    ensures { OnOk result (out.new ≡ after_acts out.old (Act.Say (Outcome.Refuse why) ∷ [])) }
+{
+    out.say(Outcome::Refuse { why })
+}
+
+/// A line, and then the reply to an update.
+pub fn reply<O: Operation>(
+    line: Outcome,
+    cid: Cid,
+    spot: Spot,
+    stamp: Stamp,
+    out: &mut Outbox<O>,
+) -> Result<(), NoMemory>
+    ensures { let done = Message.Done cid spot stamp in
+        OnOk result (out.new ≡ after_acts out.old (Act.Say line ∷ Act.Send (Actor.Client cid.client) done ∷ [])) }
+{
+    out.say(line)?;
+    out.send(
+        Actor::Client(cid.client),
+        Message::Done { cid, spot, stamp },
+    )
+}
+
 // What is printed of a message, and the message, with a text that takes no more room than it needs.
 fn told<O: Drop>(message: Message<O>) -> Result<(Sent, Message<O>), NoMemory>
     ensures sent { IfOk result (λ both. both.0 ≡ sent_of_message message) }
@@ -113,6 +140,7 @@ fn told<O: Drop>(message: Message<O>) -> Result<(Sent, Message<O>), NoMemory>
             let cid = call.cid;
             (Sent::Query { cid }, Message::Query { call })
         }
+        Message::Ack { cid, time } => (Sent::Ack { cid, time }, Message::Ack { cid, time }),
         Message::Done { cid, spot, stamp } => {
             (Sent::Done { cid, spot }, Message::Done { cid, spot, stamp })
         }

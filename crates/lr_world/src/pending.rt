@@ -1,26 +1,32 @@
 //! A step that is made up to what can't fail.
-use crate::front::Front;
 use lr_base::lr_service::Service;
 use lr_causal::Savepoint;
+use lr_front::FrontSavepoint;
 
 /// What a replica is ordered to do.
 #[derive(Clone, Copy)]
 pub enum Order {
     /// It takes the message at an index.
     Take { at: usize },
+    /// It reads its clock.
+    Read { reading: u64 },
     /// It sends gossip to another replica.
     Tell { to: u8 },
 }
 
-/// Who makes a step, with what it takes to finish it or to undo it.
+/// Who makes a step, with what gives back the state of before.
 #[derive(Drop)]
 pub enum Acting<S: Service> {
     /// A line is all that comes of the event.
     Nobody,
-    /// A front end, as it is after the step.
-    AtFront { client: u32, front: Front },
-    /// A replica, with what gives back its state of before.
-    AtReplica { me: u8, point: Savepoint<S> },
+    AtFront {
+        client: u32,
+        point: FrontSavepoint<S::Op>,
+    },
+    AtReplica {
+        me: u8,
+        point: Savepoint<S>,
+    },
 }
 
 /// A step that can be finished or undone without memory.

@@ -1,15 +1,12 @@
 //! One replica: what it does with a task, up to what can't fail, and how the step ends.
-ghost use Rattle.std.specs.Prelude.{◌≡◌, [], ◌∷◌, OnOk};
-ghost use Rattle.lr_world.specs.Outboxes.{after_acts};
-
-use crate::outbox::Outbox;
+use crate::outbox::{Outbox, refuse, reply};
 use crate::task::Task;
-use lr_base::lr_service::{Operation, Service};
+use lr_base::lr_service::Service;
 use lr_base::{
     Act, Actor, Call, Cid, Config, Fresh, Gossip, HELD_ROOM, LAST_NUMBER, Message, NoMemory,
     Outcome, Refusal, Rows, Spot, Stamp, StateLine, Text,
 };
-use lr_causal::{Causal, Savepoint};
+use lr_causal::{AckEnd, Causal, Savepoint};
 use std::alloc::Global;
 use std::marker::Model;
 
@@ -32,15 +29,16 @@ impl<S: Service> Model for Replica<S> {
 }
 
 impl<S: Service> Replica<S> {
-    ghost use Rattle.std.specs.Prelude.{◌≡◌, ◌+◌, ◌==◌, ◌<◌, ◌∷◌, ◌++◌, ℕ, true, [], length, map, nat_lt};
+    ghost use Rattle.std.specs.Prelude.{◌≡◌, ◌+◌, ◌==◌, ◌<◌, ◌∷◌, ◌++◌, ℕ, true, [], find, length, map, nat_lt};
     ghost use Rattle.std.specs.Prelude.{IfOk, OnOk, OnErr};
     ghost use Rattle.lr_base.specs.Config.{IsValid};
     ghost use Rattle.lr_base.specs.Limits.{held_room};
     ghost use Rattle.lr_base.specs.Stamps.{stamp_le};
     ghost use Rattle.lr_base.specs.Replicas.{first_replica, state_line_of};
     ghost use Rattle.lr_base.specs.Rules.{CausalState, fresh_of, gossip_of};
-    ghost use Rattle.lr_base.specs.Steps.{call_taken, gossip_given, has_number, has_room, held_acts, own_taken};
-    ghost use Rattle.lr_base.specs.Steps.{query_held, query_taken, update_taken};
+    ghost use Rattle.lr_base.specs.Ascending.{same_cid};
+    ghost use Rattle.lr_base.specs.Steps.{ack_taken, call_taken, gossip_given, has_number, has_room};
+    ghost use Rattle.lr_base.specs.Steps.{held_acts, own_taken, query_held, query_taken, update_taken};
     ghost use Rattle.lr_causal.specs.Causal.{IsGossip, IsUpdateCall};
     ghost use Rattle.lr_causal.specs.Savepoint.{CanUndo, IsPointOf, IsSame};
     ghost use Rattle.lr_world.specs.Outboxes.{after_acts};
@@ -154,6 +152,10 @@ impl<S: Service> Replica<S> {
     {
         match task {
             Task::Take { from, message } => self.take(from, message, out),
+            Task::Read { reading } => {
+                let reading = self.causal.tick(reading);
+                out.say(Outcome::ClockAt { reading })
+            }
             Task::Tell { to } => self.tell(to, out),
         }
     }
@@ -175,12 +177,28 @@ impl<S: Service> Replica<S> {
             Actor::Client(_client) => match message {
                 Message::Update { call, time } => self.on_update(call, *time, out),
                 Message::Query { call } => self.on_query(call, out),
+                Message::Ack { cid, time } => self.on_ack(*cid, *time, out),
                 _ => Ok(()),
             },
             Actor::Replica(from) => match message {
                 Message::Gossip { gossip } => self.on_gossip(from, gossip, out),
                 _ => Ok(()),
             },
+        }
+    }
+
+    // An acknowledgement is noted or refused.
+    fn on_ack(&mut self, cid: Cid, time: u64, out: &mut Outbox<S::Op>) -> Result<(), NoMemory>
+        ensures did { let it = self.old in let logged = find (λ ack. same_cid ack.cid cid) it.causal.acks in
+            let end = ack_taken it.me it.causal cid time logged (has_room it.causal) (has_number it.me it.causal) in
+            OnOk result (HasDone end self.new.causal out.old out.new) }
+        ensures undo { (row : ℕ) → CanUndo row self.old self.new }
+    {
+        match self.causal.ack(cid, time)? {
+            AckEnd::Noted(spot) => out.say(Outcome::Note { spot, cid }),
+            AckEnd::Again(spot) => refuse(Refusal::Noted { spot }, out),
+            AckEnd::FullLog => refuse(Refusal::FullLog, out),
+            AckEnd::Worn => refuse(Refusal::Worn, out),
         }
     }
 
@@ -366,31 +384,6 @@ impl<S: Service> Replica<S> {
         }
         Ok(cids)
     }
-}
-
-// Nothing is done, and this is why.
-fn refuse<O: Operation>(why: Refusal, out: &mut Outbox<O>) -> Result<(), NoMemory>
-    ensures { OnOk result (out.new ≡ after_acts out.old (Act.Say (Outcome.Refuse why) ∷ [])) }
-{
-    out.say(Outcome::Refuse { why })
-}
-
-// A line, and then the reply to an update.
-fn reply<O: Operation>(
-    line: Outcome,
-    cid: Cid,
-    spot: Spot,
-    stamp: Stamp,
-    out: &mut Outbox<O>,
-) -> Result<(), NoMemory>
-    ensures { let done = Message.Done cid spot stamp in
-        OnOk result (out.new ≡ after_acts out.old (Act.Say line ∷ Act.Send (Actor.Client cid.client) done ∷ [])) }
-{
-    out.say(line)?;
-    out.send(
-        Actor::Client(cid.client),
-        Message::Done { cid, spot, stamp },
-    )
 }
 
 #[cfg(test)]

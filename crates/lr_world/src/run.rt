@@ -6,14 +6,15 @@ ghost use Rattle.lr_graph.specs.Runs.{first_fronts, first_replicas};
 ghost use Rattle.lr_world.specs.Pending.{IsTaskOf, IsWithin};
 ghost use Rattle.lr_world.specs.Posts.{AllFronts, AllPosted};
 
-use crate::front::Front;
-use crate::front_steps::{on_call, on_message};
+use crate::front_steps::make;
+use crate::front_task::FrontTask;
 use crate::outbox::Outbox;
 use crate::pending::{Acting, Order, Pending};
 use crate::replica::Replica;
 use crate::task::Task;
-use lr_base::lr_service::Service;
+use lr_base::lr_service::{Operation, Service};
 use lr_base::{Actor, Config, Event, NoMemory, Outcome, Posted};
+use lr_front::Front;
 use std::alloc::Global;
 
 /// Each replica at its place, a front end for each client, what they sent, and what is printed of the last step.
@@ -21,7 +22,7 @@ use std::alloc::Global;
 pub struct Run<S: Service> {
     config: Config,
     replicas: Vec<Replica<S>>,
-    fronts: Vec<Front>,
+    fronts: Vec<Front<S::Op>>,
     // Each of them may be delivered at any time.
     posted: Vec<Posted<S::Op>>,
     outbox: Outbox<S::Op>,
@@ -38,9 +39,9 @@ impl<S: Service> Run<S> {
     ghost use Rattle.std.specs.Option.{ForSome};
     ghost use Rattle.lr_base.specs.Config.{IsValid};
     ghost use Rattle.lr_base.specs.Events.{FitsRun};
-    ghost use Rattle.lr_graph.specs.Runs.{RunState, first_run, given, stepped, unchanged};
-    ghost use Rattle.lr_base.specs.Replicas.{ReplicaState};
-    ghost use Rattle.lr_world.specs.Pending.{CanTakeBack, HasBegun, HasSent, HaveBegun, IsActing, IsOrderOf, IsWithin};
+    ghost use Rattle.lr_graph.specs.Runs.{RunState, first_run, front_does, given, stepped, unchanged};
+    ghost use Rattle.lr_world.specs.Parts.{IsFrontTask, NamesReplica, event_of};
+    ghost use Rattle.lr_world.specs.Pending.{CanTakeBack, HasBegun, HasChanged, HasSent, IsActing, IsOrderOf, IsWithin};
     ghost use Rattle.lr_world.specs.Pending.{completed, ordered};
     ghost use Rattle.lr_world.specs.Posts.{AllPosted};
     ghost use Rattle.lr_world.specs.Worlds.{HasStepped, lines_of, run_of, setup_of};
@@ -108,17 +109,45 @@ impl<S: Service> Run<S> {
             IfOk result (HasBegun (setup_of self.old) made (run_of self.old) (run_of self.new) (lines_of self.new)) }
         ensures err { OnErr result (run_of self.new ≡ run_of self.old) }
     {
-        match event {
+        let (client, task) = match event {
             Event::Call {
                 client,
                 replica,
                 reading,
                 op,
-            } => self.call(*client, *replica, *reading, op),
-            Event::Deliver { message } => self.deliver(*message),
-            Event::Gossip { from, to } => self.order(*from, Order::Tell { to: *to }),
-            Event::Show { replica } => self.show(*replica),
-        }
+            } => {
+                let (replica, reading) = (*replica, *reading);
+                let task = FrontTask::Call {
+                    replica,
+                    reading,
+                    op,
+                };
+                (*client, task)
+            }
+            Event::Resend {
+                client,
+                replica,
+                reading,
+            } => {
+                let (replica, reading) = (*replica, *reading);
+                (*client, FrontTask::Resend { replica, reading })
+            }
+            Event::Ack {
+                client,
+                replica,
+                reading,
+            } => {
+                let (replica, reading) = (*replica, *reading);
+                (*client, FrontTask::Acknowledge { replica, reading })
+            }
+            Event::Tick { replica, reading } => {
+                return self.order(*replica, Order::Read { reading: *reading });
+            }
+            Event::Deliver { message } => return self.deliver(*message),
+            Event::Gossip { from, to } => return self.order(*from, Order::Tell { to: *to }),
+            Event::Show { replica } => return self.show(*replica),
+        };
+        self.command(client, task)
     }
 
     /// Ends a step. It takes no memory.
@@ -132,7 +161,7 @@ impl<S: Service> Run<S> {
     {
         match pending.who {
             Acting::Nobody => (),
-            Acting::AtFront { client, front } => put_front(&mut self.fronts, client, front),
+            Acting::AtFront { .. } => (),
             Acting::AtReplica { me, point } => self.replicas[me as usize].finish(point),
         }
     }
@@ -146,8 +175,10 @@ impl<S: Service> Run<S> {
             → run_of self.new ≡ before }
     {
         self.posted.truncate(pending.sent);
-        if let Acting::AtReplica { me, point } = pending.who {
-            self.replicas[me as usize].undo(point);
+        match pending.who {
+            Acting::Nobody => (),
+            Acting::AtFront { client, point } => self.fronts[client as usize].restore(point),
+            Acting::AtReplica { me, point } => self.replicas[me as usize].undo(point),
         }
     }
 
@@ -179,26 +210,21 @@ impl<S: Service> Run<S> {
         self.say(line)
     }
 
-    // A client calls through a replica.
+    // A client's front end is told what to do.
     #[inline(always)]
-    fn call(
-        &mut self,
-        client: u32,
-        replica: u8,
-        reading: u64,
-        op: &S::Op,
-    ) -> Result<Pending<S>, NoMemory>
+    fn command(&mut self, client: u32, task: FrontTask<'_, S::Op>) -> Result<Pending<S>, NoMemory>
         requires client { client < (setup_of self.old).clients }
-        requires replica { replica < (setup_of self.old).replicas }
+        requires task { IsFrontTask (setup_of self.old).replicas task × NamesReplica (setup_of self.old) task }
         ensures setup { setup_of self.new ≡ setup_of self.old }
-        ensures made { let made = stepped S.meaning (run_of self.old) (Event.Call client replica reading op.now) in
-            IfOk result (HasBegun (setup_of self.old) made (run_of self.old) (run_of self.new) (lines_of self.new)) }
+        ensures made { let run = run_of self.old in let front = slice_get run.fronts client in
+            let made = front_does S.meaning run client (event_of task.entry) front in
+            IfOk result (HasBegun (setup_of self.old) made run (run_of self.new) (lines_of self.new)) }
         ensures err { OnErr result (run_of self.new ≡ run_of self.old) }
     {
-        let mut front = self.fronts[client as usize].copy();
         self.outbox.open(Actor::Client(client), self.posted.len());
-        on_call::<S>(&mut front, replica, reading, op, &mut self.outbox)?;
-        self.send(Acting::AtFront { client, front })
+        let front = &mut self.fronts[client as usize];
+        let point = make::<S>(front, task, &mut self.outbox)?;
+        self.send(Acting::AtFront { client, point })
     }
 
     // A message is given to its receiver.
@@ -233,11 +259,11 @@ impl<S: Service> Run<S> {
             IfOk result (HasBegun (setup_of self.old) made run (run_of self.new) (lines_of self.new))) }
         ensures err { OnErr result (run_of self.new ≡ run_of self.old) }
     {
-        let mut front = self.fronts[client as usize].copy();
         self.outbox.open(Actor::Client(client), self.posted.len());
-        let posted = message_at(self.posted.as_slice(), at);
-        on_message(&mut front, &posted.message, &mut self.outbox)?;
-        self.send(Acting::AtFront { client, front })
+        let message = &message_at(self.posted.as_slice(), at).message;
+        let front = &mut self.fronts[client as usize];
+        let point = make::<S>(front, FrontTask::Take { message }, &mut self.outbox)?;
+        self.send(Acting::AtFront { client, point })
     }
 
     // A replica does what it is ordered to.
@@ -265,11 +291,11 @@ impl<S: Service> Run<S> {
     fn send(&mut self, who: Acting<S>) -> Result<Pending<S>, NoMemory>
         requires acting { IsActing (setup_of self.old) who }
         requires posts { AllPosted S.Op.kind_of (setup_of self.old) self.old.outbox.posts }
-        requires begun { (replicas : List (ReplicaState S S.Op)) × HaveBegun who replicas (run_of self.old).replicas }
+        requires begun { (before : RunState S S.Op) × HasChanged who before (run_of self.old) }
         ensures setup { setup_of self.new ≡ setup_of self.old }
         ensures ok { IfOk result (HasSent who self.old.outbox (run_of self.old) (run_of self.new) (lines_of self.new)) }
-        ensures err { (replicas : List (ReplicaState S S.Op)) → HaveBegun who replicas (run_of self.old).replicas
-            → OnErr result (run_of self.new ≡ record (run_of self.old) { replicas = replicas }) }
+        ensures err { (before : RunState S S.Op) → HasChanged who before (run_of self.old)
+            → OnErr result (run_of self.new ≡ record before { posted = (run_of self.old).posted }) }
     {
         let pending = Pending {
             sent: self.posted.len(),
@@ -304,21 +330,13 @@ fn task_of<O: Drop>(posted: &[Posted<O>], order: Order) -> Task<'_, O>
                 message: &sent.message,
             }
         }
+        Order::Read { reading } => Task::Read { reading },
         Order::Tell { to } => Task::Tell { to },
     }
 }
 
-// A front end comes into its client's place.
-fn put_front(fronts: &mut Vec<Front>, client: u32, front: Front)
-    requires { client < vec_len fronts.old }
-    ensures put { fronts.new.items ≡ set fronts.old.items client front }
-    ensures count { vec_len fronts.new ≡ vec_len fronts.old }
-{
-    fronts[client as usize] = front;
-}
-
 // A front end for each client.
-fn make_fronts(alloc: Global, config: Config) -> Result<Vec<Front>, NoMemory>
+fn make_fronts<O: Operation>(alloc: Global, config: Config) -> Result<Vec<Front<O>>, NoMemory>
     requires { IsValid config }
     ensures each { IfOk result (λ fronts. vec_len fronts ≡ config.clients) }
     ensures all { IfOk result (λ fronts. AllFronts config fronts.items) }
@@ -326,7 +344,7 @@ fn make_fronts(alloc: Global, config: Config) -> Result<Vec<Front>, NoMemory>
 {
     let mut fronts = Vec::new(alloc);
     for client in 0..config.clients {
-        fronts.push(Front::new(client, config.replicas + 1))?;
+        fronts.push(Front::new(config, client))?;
     }
     Ok(fronts)
 }

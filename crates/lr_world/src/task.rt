@@ -8,6 +8,10 @@ pub enum Task<'a, O: Drop> {
         from: Actor,
         message: &'a Message<O>,
     },
+    /// It reads its clock.
+    Read {
+        reading: u64,
+    },
     /// It sends gossip to another replica.
     Tell {
         to: u8,

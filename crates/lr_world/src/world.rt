@@ -87,7 +87,21 @@ impl<S: Service> World<S> {
                 reading: _reading,
                 op,
             } => *client < config.clients && *replica < config.replicas && has_rules(S::kind(op)),
+            Event::Resend {
+                client,
+                replica,
+                reading: _reading,
+            } => *client < config.clients && *replica < config.replicas,
+            Event::Ack {
+                client,
+                replica,
+                reading: _reading,
+            } => *client < config.clients && *replica < config.replicas,
             Event::Deliver { message: _message } => true,
+            Event::Tick {
+                replica,
+                reading: _reading,
+            } => *replica < config.replicas,
             Event::Gossip { from, to } => {
                 *from < config.replicas && *to < config.replicas && *from != *to
             }
@@ -131,7 +145,21 @@ fn calls_own_op<S: Service>(event: &Event<S::Op>)
             reading: _reading,
             op,
         } => S::own_op(op),
+        Event::Resend {
+            client: _client,
+            replica: _replica,
+            reading: _reading,
+        } => (),
+        Event::Ack {
+            client: _client,
+            replica: _replica,
+            reading: _reading,
+        } => (),
         Event::Deliver { message: _message } => (),
+        Event::Tick {
+            replica: _replica,
+            reading: _reading,
+        } => (),
         Event::Gossip {
             from: _from,
             to: _to,

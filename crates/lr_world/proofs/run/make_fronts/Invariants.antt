@@ -5,7 +5,7 @@ use Rattle.lr_world.proofs.run.make_fronts.Given as goal
 
 -- there is one for each client so far
 abbrev pub invariant-loop-client : goal.invariant-loop-client
-invariant-loop-client l = record {
+invariant-loop-client g l = record {
   each : vec_len l.fronts ≡ l.client;
   all : AllFronts l.config l.fronts.items;
   first : l.fronts.items ≡ first_fronts l.config l.client;

@@ -1,20 +1,10 @@
 use Rattle.std.proofs.Common.{rules, ◌∙◌, ap, subst, sym}
 use Rattle.lr_causal.specs.Savepoint.{IsPointOf}
 use Rattle.lr_world.proofs.Begun.{begun-point, finished-run}
-use Rattle.lr_world.proofs.Everywhere.{each-set}
 use Rattle.lr_world.proofs.Reading.{replica-put, replica-read}
 use Rattle.lr_world.specs.Pending.{IsActing, completed}
-use Rattle.lr_world.specs.Posts.{AllFronts, IsFront}
 use Rattle.lr_world.specs.Worlds.{run_of}
 use Rattle.lr_world.proofs.run.Run.finish.Goals as goal
-
-pub invariant_of-self-clause-all_fronts : goal.invariant_of-self-clause-all_fronts
-invariant_of-self-clause-all_fronts g c =
-    let it = c.args.self.now in
-    let acting = subst (IsActing it.config) c.in-AtFront.is c.requires.acting in
-    subst (AllFronts it.config) (sym c.put_front.ensures.put)
-    (each-set it.fronts.items c.in-AtFront.client _ (IsFront it.config) it.all_fronts
-    (subst (IsFront it.config c.in-AtFront.client) (search rules) acting.1))
 
 pub finish-requires : goal.finish-requires
 finish-requires g c =
@@ -28,15 +18,15 @@ finish-requires g c =
     c.requires.begun.1 there in
     (base.0, subst (λ p. IsPointOf p r.causal base.0) (search rules) base.1)
 
-pub invariant_of-self-in-AtReplica-clause-all_replicas : goal.invariant_of-self-in-AtReplica-clause-all_replicas
-invariant_of-self-in-AtReplica-clause-all_replicas g c =
+pub invariant_of-self-clause-all_replicas : goal.invariant_of-self-clause-all_replicas
+invariant_of-self-clause-all_replicas g c =
     let it = c.args.self.now in
     replica-put it c.in-AtReplica.me _ c.finish.new.self (subst (IsActing it.config) c.in-AtReplica.is c.requires.acting)
     c.index_mut.ensures.value
     (record { setting = ap (λ r. r.config) c.finish.ensures; number = ap (λ r. r.me) c.finish.ensures })
 
-pub returns-in-AtReplica-clause-run : goal.returns-in-AtReplica-clause-run
-returns-in-AtReplica-clause-run g c =
+pub returns-clause-run : goal.returns-clause-run
+returns-clause-run g c =
     let it = c.args.self.now in
     let me = c.in-AtReplica.me in
     let r = c.index_mut.result.now in

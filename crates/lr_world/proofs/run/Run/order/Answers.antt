@@ -1,4 +1,4 @@
-use Rattle.std.proofs.Common.{◌∙◌, ap, lt-ltb, subst, sym}
+use Rattle.std.proofs.Common.{◌∙◌, ap, lt-ltb, refl, subst, sym}
 use Rattle.lr_base.specs.declared.names.Actor.TheVariants.{Replica}
 use Rattle.lr_base.specs.declared.names.Config.{Config}
 use Rattle.lr_graph.specs.Runs.{Stepped}
@@ -76,9 +76,12 @@ send-requires-clause-begun g c =
     let it = c.args.self.now in
     let r = c.index_mut-replica.result.now in
     let there = (replica-read it c.args.me r c.requires.me c.index_mut-replica.ensures.value).1 in (
-      it.replicas.items,
-      has-begun (run_of it) c.args.me r c.begin.new.self c.in_ok-point.point there c.in_ok-point.ensures.same
-          c.in_ok-point.ensures.point,
+      run_of it,
+      record {
+        fronts = refl;
+        replicas = has-begun (run_of it) c.args.me r c.begin.new.self c.in_ok-point.point there c.in_ok-point.ensures.same
+            c.in_ok-point.ensures.point;
+      },
     )
 
 pub returns-clause-made : goal.returns-clause-made
@@ -104,6 +107,9 @@ returns-clause-err g c =
     let it = c.args.self.now in
     let r = c.index_mut-replica.result.now in
     let there = (replica-read it c.args.me r c.requires.me c.index_mut-replica.ensures.value).1 in
-    c.send.ensures.err it.replicas.items
-    (has-begun (run_of it) c.args.me r c.begin.new.self c.in_ok-point.point there c.in_ok-point.ensures.same
-    c.in_ok-point.ensures.point)
+    c.send.ensures.err (run_of it)
+    (record {
+      fronts = refl;
+      replicas = has-begun (run_of it) c.args.me r c.begin.new.self c.in_ok-point.point there c.in_ok-point.ensures.same
+          c.in_ok-point.ensures.point;
+    })

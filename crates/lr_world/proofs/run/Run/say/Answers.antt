@@ -17,7 +17,6 @@ returns-clause-made g c =
           ∙ opened-lines (Client 0) c.len-sent.result (Say c.args.line ∷ []);
       undoes = record {
         sent = ap (λ n. take n it.posted.items) (c.len-sent.ensures ∙ it.posted.ok.0) ∙ take-length it.posted.items;
-        fronts = refl;
-        replicas = refl;
+        changed = record { fronts = refl; replicas = refl };
       };
     }

@@ -1,4 +1,4 @@
-use Rattle.std.proofs.Common.{◌∙◌, ap, refl, take}
+use Rattle.std.proofs.Common.{◌∙◌, ap, take}
 use Rattle.std.proofs.Math.Seq.{take-length}
 use Rattle.lr_world.proofs.Shaped.{posted-either}
 use Rattle.lr_world.proofs.run.Run.send.Goals as goal
@@ -11,20 +11,18 @@ invariant_of-self-clause-all_posted g c =
 pub undo-requires-clause-begun : goal.undo-requires-clause-begun
 undo-requires-clause-begun g c =
     let it = c.args.self.now in (
-      record { replicas = c.requires.begun.0; fronts = it.fronts.items; posted = it.posted.items },
+      record c.requires.begun.0 { posted = it.posted.items },
       record {
         sent = ap (take c.len.result) c.in_default.ensures.err ∙ ap (λ n. take n it.posted.items) (c.len.ensures ∙ it.posted.ok.0) ∙ take-length it.posted.items;
-        fronts = refl;
-        replicas = c.requires.begun.1;
+        changed = record { fronts = c.requires.begun.1.fronts; replicas = c.requires.begun.1.replicas };
       },
     )
 
 pub returns-in_default-clause-err : goal.returns-in_default-clause-err
-returns-in_default-clause-err g c replicas begun =
+returns-in_default-clause-err g c before begun =
     let it = c.args.self.now in
-    c.undo.ensures.run (record { replicas = replicas; fronts = it.fronts.items; posted = it.posted.items })
+    c.undo.ensures.run (record before { posted = it.posted.items })
     (record {
       sent = ap (take c.len.result) c.in_default.ensures.err ∙ ap (λ n. take n it.posted.items) (c.len.ensures ∙ it.posted.ok.0) ∙ take-length it.posted.items;
-      fronts = refl;
-      replicas = begun;
+      changed = record { fronts = begun.fronts; replicas = begun.replicas };
     })
