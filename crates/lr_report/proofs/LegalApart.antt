@@ -6,7 +6,7 @@ use Rattle.lr_base.specs.Config.{IsValid}
 use Rattle.lr_base.specs.Limits.{most_clients-is, most_replicas-is}
 use Rattle.lr_base.specs.Meaning.{Meaning}
 use Rattle.lr_base.specs.declared.events.Event.{Event}
-use Rattle.lr_base.specs.declared.events.Event.TheVariants.{Call, Deliver, Gossip as GossipEvent, Show}
+use Rattle.lr_base.specs.declared.events.Event.TheVariants.{Call, Resend, Ack, Deliver, Tick, Gossip as GossipEvent, Show}
 use Rattle.lr_base.specs.declared.events.Step.{Step}
 use Rattle.lr_base.specs.declared.names.Config.{Config}
 use Rattle.lr_graph.specs.After.{after}
@@ -32,6 +32,16 @@ module _ {Value Op : Type 0} (m : Meaning Value Op) (config : Config) (valid : I
       let most = valid.most_clients in
       omega (arith, most_clients-is)
 
+  -- the numbers of a front end's event without an operation fit
+  asked-fits : (client replica reading : ℕ)
+      → nat_lt client config.clients && nat_lt replica config.replicas ≡ true → NumberFits reading
+      → NumberFits client × NumberFits replica × NumberFits reading
+  asked-fits client replica reading is brings = (
+    client-fits client (all_head (nat_lt client config.clients) (nat_lt replica config.replicas) is),
+    replica-fits replica (all_tail (nat_lt client config.clients) (nat_lt replica config.replicas) is),
+    brings,
+  )
+
   -- an event of a run fits, if the number does that it brings
   event-fits : (event : Event Op) → is_event_in m config event ≡ true → EventNumberFits event → EventFits m event
   event-fits (Call client replica reading op) is brings =
@@ -41,7 +51,10 @@ module _ {Value Op : Type 0} (m : Meaning Value Op) (config : Config) (valid : I
         brings,
         all_tail (nat_lt replica config.replicas) (m.is_op op) rest,
       )
+  event-fits (Resend client replica reading) is brings = asked-fits client replica reading is brings
+  event-fits (Ack client replica reading) is brings = asked-fits client replica reading is brings
   event-fits (Deliver message) is brings = brings
+  event-fits (Tick replica reading) is brings = (replica-fits replica is, brings)
   event-fits (GossipEvent from to) is brings =
       let rest = all_tail (nat_lt from config.replicas) (nat_lt to config.replicas && not (from == to)) is in (
         replica-fits from (all_head (nat_lt from config.replicas) _ is),

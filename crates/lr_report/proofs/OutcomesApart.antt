@@ -1,9 +1,9 @@
 -- An outcome is told apart by its line.
 use Rattle.std.proofs.Common.{◌≡◌, ℕ, false, not, eqb, List, ◌∷◌, ◌++◌, drop, refl, ap}
 use Rattle.std.specs.Fmt.{decimal}
-use Rattle.lr_base.specs.declared.events.Outcome.TheVariants.{Send, Accept, Hold, Take, Got, Stale, NoMessage, Refuse, State}
-use Rattle.lr_base.specs.declared.events.Refusal.TheVariants.{Late, Again, Settled, FullLog, FullHeld, Worn, Unfinished}
-use Rattle.lr_base.specs.declared.events.Sent.TheVariants.{Update, Query, Done, Answer, Gossip}
+use Rattle.lr_base.specs.declared.events.Outcome.TheVariants.{Send, Accept, Note, Hold, Take, Got, Stale, ClockAt, NoMessage, Refuse, State}
+use Rattle.lr_base.specs.declared.events.Refusal.TheVariants.{Late, Again, Settled, Noted, FullLog, FullHeld, Worn, Unfinished, Idle, Nothing}
+use Rattle.lr_base.specs.declared.events.Sent.TheVariants.{Update, Query, Ack, Done, Answer, Gossip}
 use Rattle.lr_base.specs.declared.names.Actor.{Actor}
 use Rattle.lr_base.specs.declared.names.Cid.{Cid}
 use Rattle.lr_report.specs.Printed.{sent_text, refusal_text, outcome_text}
@@ -47,6 +47,10 @@ sent_apart replicas (Update c time) (Update d other) x y fa fb same =
 sent_apart replicas (Query c) (Query d) x y fa fb same =
     let last = cid_last c d x y fa fb (ap (drop 6) same) in
     (ap Query last.0, last.1)
+sent_apart replicas (Ack c time) (Ack d other) x y fa fb same =
+    let first = cid_first c d _ _ _ _ fa.0 fb.0 (ap (drop 4) same) refl refl in
+    let last = number_last time other x y fa.1 fb.1 (ap (drop 4) first.1) in
+    (λ i. Ack (first.0 i) (last.0 i), last.1)
 sent_apart replicas (Done c spot) (Done d other) x y fa fb same =
     let first = cid_first c d _ _ _ _ fa.0 fb.0 (ap (drop 5) same) refl refl in
     let last = spot_last replicas spot other x y fa.1 fb.1 (ap (drop 4) first.1) in
@@ -56,20 +60,14 @@ sent_apart replicas (Answer c text) (Answer d other) x y fa fb same =
     let last = cut_one (λ byte. not (eqb byte 10)) 10 refl text other x y (ap (drop 1) first.1) (feedless text fa.1) (feedless other fb.1) in
     (λ i. Answer (first.0 i) (last.0 i), last.1)
 sent_apart replicas Gossip Gossip x y fa fb same = (refl, ap (drop 7) same)
+sent_apart replicas (Ack _ _) (Answer _ _) x y fa fb same = unlike 1 _ _ refl same
+sent_apart replicas (Answer _ _) (Ack _ _) x y fa fb same = unlike 1 _ _ refl same
+sent_apart replicas (Update _ _) _ x y fa fb same = unlike 0 _ _ refl same
+sent_apart replicas (Query _) _ x y fa fb same = unlike 0 _ _ refl same
+sent_apart replicas (Ack _ _) _ x y fa fb same = unlike 0 _ _ refl same
+sent_apart replicas (Done _ _) _ x y fa fb same = unlike 0 _ _ refl same
+sent_apart replicas (Answer _ _) _ x y fa fb same = unlike 0 _ _ refl same
 sent_apart replicas Gossip _ x y fa fb same = unlike 0 _ _ refl same
-sent_apart replicas _ Gossip x y fa fb same = unlike 0 _ _ refl same
-sent_apart replicas (Update _ _) (Query _) x y fa fb same = unlike 0 _ _ refl same
-sent_apart replicas (Update _ _) (Done _ _) x y fa fb same = unlike 0 _ _ refl same
-sent_apart replicas (Update _ _) (Answer _ _) x y fa fb same = unlike 0 _ _ refl same
-sent_apart replicas (Query _) (Update _ _) x y fa fb same = unlike 0 _ _ refl same
-sent_apart replicas (Query _) (Done _ _) x y fa fb same = unlike 0 _ _ refl same
-sent_apart replicas (Query _) (Answer _ _) x y fa fb same = unlike 0 _ _ refl same
-sent_apart replicas (Done _ _) (Update _ _) x y fa fb same = unlike 0 _ _ refl same
-sent_apart replicas (Done _ _) (Query _) x y fa fb same = unlike 0 _ _ refl same
-sent_apart replicas (Done _ _) (Answer _ _) x y fa fb same = unlike 0 _ _ refl same
-sent_apart replicas (Answer _ _) (Update _ _) x y fa fb same = unlike 0 _ _ refl same
-sent_apart replicas (Answer _ _) (Query _) x y fa fb same = unlike 0 _ _ refl same
-sent_apart replicas (Answer _ _) (Done _ _) x y fa fb same = unlike 0 _ _ refl same
 
 -- reasons
 refusal_apart : (replicas : ℕ) → TellsLine RefusalFits (refusal_text replicas)
@@ -81,54 +79,31 @@ refusal_apart replicas (Again spot) (Again other) x y fa fb same =
     let last = spot_last replicas spot other x y fa fb (ap (drop 6) same) in
     (ap Again last.0, last.1)
 refusal_apart replicas Settled Settled x y fa fb same = (refl, ap (drop 8) same)
+refusal_apart replicas (Noted spot) (Noted other) x y fa fb same =
+    let last = spot_last replicas spot other x y fa fb (ap (drop 6) same) in
+    (ap Noted last.0, last.1)
 refusal_apart replicas FullLog FullLog x y fa fb same = (refl, ap (drop 9) same)
 refusal_apart replicas FullHeld FullHeld x y fa fb same = (refl, ap (drop 10) same)
 refusal_apart replicas Worn Worn x y fa fb same = (refl, ap (drop 5) same)
 refusal_apart replicas (Unfinished c) (Unfinished d) x y fa fb same =
     let last = cid_last c d x y fa fb (ap (drop 5) same) in
     (ap Unfinished last.0, last.1)
-refusal_apart replicas (Late _ _) (Again _) x y fa fb same = unlike 0 _ _ refl same
-refusal_apart replicas (Late _ _) Settled x y fa fb same = unlike 0 _ _ refl same
-refusal_apart replicas (Late _ _) FullLog x y fa fb same = unlike 0 _ _ refl same
-refusal_apart replicas (Late _ _) FullHeld x y fa fb same = unlike 0 _ _ refl same
-refusal_apart replicas (Late _ _) Worn x y fa fb same = unlike 0 _ _ refl same
-refusal_apart replicas (Late _ _) (Unfinished _) x y fa fb same = unlike 0 _ _ refl same
-refusal_apart replicas (Again _) (Late _ _) x y fa fb same = unlike 0 _ _ refl same
-refusal_apart replicas (Again _) Settled x y fa fb same = unlike 0 _ _ refl same
-refusal_apart replicas (Again _) FullLog x y fa fb same = unlike 0 _ _ refl same
-refusal_apart replicas (Again _) FullHeld x y fa fb same = unlike 0 _ _ refl same
-refusal_apart replicas (Again _) Worn x y fa fb same = unlike 0 _ _ refl same
-refusal_apart replicas (Again _) (Unfinished _) x y fa fb same = unlike 0 _ _ refl same
-refusal_apart replicas Settled (Late _ _) x y fa fb same = unlike 0 _ _ refl same
-refusal_apart replicas Settled (Again _) x y fa fb same = unlike 0 _ _ refl same
-refusal_apart replicas Settled FullLog x y fa fb same = unlike 0 _ _ refl same
-refusal_apart replicas Settled FullHeld x y fa fb same = unlike 0 _ _ refl same
-refusal_apart replicas Settled Worn x y fa fb same = unlike 0 _ _ refl same
-refusal_apart replicas Settled (Unfinished _) x y fa fb same = unlike 0 _ _ refl same
-refusal_apart replicas FullLog (Late _ _) x y fa fb same = unlike 0 _ _ refl same
-refusal_apart replicas FullLog (Again _) x y fa fb same = unlike 0 _ _ refl same
-refusal_apart replicas FullLog Settled x y fa fb same = unlike 0 _ _ refl same
+refusal_apart replicas Idle Idle x y fa fb same = (refl, ap (drop 5) same)
+refusal_apart replicas Nothing Nothing x y fa fb same = (refl, ap (drop 8) same)
+refusal_apart replicas (Noted _) Nothing x y fa fb same = unlike 3 _ _ refl same
+refusal_apart replicas Nothing (Noted _) x y fa fb same = unlike 3 _ _ refl same
 refusal_apart replicas FullLog FullHeld x y fa fb same = unlike 5 _ _ refl same
-refusal_apart replicas FullLog Worn x y fa fb same = unlike 0 _ _ refl same
-refusal_apart replicas FullLog (Unfinished _) x y fa fb same = unlike 0 _ _ refl same
-refusal_apart replicas FullHeld (Late _ _) x y fa fb same = unlike 0 _ _ refl same
-refusal_apart replicas FullHeld (Again _) x y fa fb same = unlike 0 _ _ refl same
-refusal_apart replicas FullHeld Settled x y fa fb same = unlike 0 _ _ refl same
 refusal_apart replicas FullHeld FullLog x y fa fb same = unlike 5 _ _ refl same
-refusal_apart replicas FullHeld Worn x y fa fb same = unlike 0 _ _ refl same
-refusal_apart replicas FullHeld (Unfinished _) x y fa fb same = unlike 0 _ _ refl same
-refusal_apart replicas Worn (Late _ _) x y fa fb same = unlike 0 _ _ refl same
-refusal_apart replicas Worn (Again _) x y fa fb same = unlike 0 _ _ refl same
-refusal_apart replicas Worn Settled x y fa fb same = unlike 0 _ _ refl same
-refusal_apart replicas Worn FullLog x y fa fb same = unlike 0 _ _ refl same
-refusal_apart replicas Worn FullHeld x y fa fb same = unlike 0 _ _ refl same
-refusal_apart replicas Worn (Unfinished _) x y fa fb same = unlike 0 _ _ refl same
-refusal_apart replicas (Unfinished _) (Late _ _) x y fa fb same = unlike 0 _ _ refl same
-refusal_apart replicas (Unfinished _) (Again _) x y fa fb same = unlike 0 _ _ refl same
-refusal_apart replicas (Unfinished _) Settled x y fa fb same = unlike 0 _ _ refl same
-refusal_apart replicas (Unfinished _) FullLog x y fa fb same = unlike 0 _ _ refl same
-refusal_apart replicas (Unfinished _) FullHeld x y fa fb same = unlike 0 _ _ refl same
-refusal_apart replicas (Unfinished _) Worn x y fa fb same = unlike 0 _ _ refl same
+refusal_apart replicas (Late _ _) _ x y fa fb same = unlike 0 _ _ refl same
+refusal_apart replicas (Again _) _ x y fa fb same = unlike 0 _ _ refl same
+refusal_apart replicas Settled _ x y fa fb same = unlike 0 _ _ refl same
+refusal_apart replicas (Noted _) _ x y fa fb same = unlike 0 _ _ refl same
+refusal_apart replicas FullLog _ x y fa fb same = unlike 0 _ _ refl same
+refusal_apart replicas FullHeld _ x y fa fb same = unlike 0 _ _ refl same
+refusal_apart replicas Worn _ x y fa fb same = unlike 0 _ _ refl same
+refusal_apart replicas (Unfinished _) _ x y fa fb same = unlike 0 _ _ refl same
+refusal_apart replicas Idle _ x y fa fb same = unlike 0 _ _ refl same
+refusal_apart replicas Nothing _ x y fa fb same = unlike 0 _ _ refl same
 
 -- outcomes
 pub outcome_apart : (replicas : ℕ) → TellsLine OutcomeFits (outcome_text replicas)
@@ -142,15 +117,25 @@ outcome_apart replicas (Accept spot c) (Accept other d) x y fa fb same =
     let first = first_apart starts_with_digit SpotFits (spot_text replicas) (spot_apart replicas) spot other _ _ _ _ fa.0 fb.0 (ap (drop 7) same) refl refl in
     let last = cid_last c d x y fa.1 fb.1 (ap (drop 1) first.1) in
     (λ i. Accept (first.0 i) (last.0 i), last.1)
+outcome_apart replicas (Note spot c) (Note other d) x y fa fb same =
+    let first = first_apart starts_with_digit SpotFits (spot_text replicas) (spot_apart replicas) spot other _ _ _ _ fa.0 fb.0 (ap (drop 5) same) refl refl in
+    let last = cid_last c d x y fa.1 fb.1 (ap (drop 1) first.1) in
+    (λ i. Note (first.0 i) (last.0 i), last.1)
 outcome_apart replicas (Hold c) (Hold d) x y fa fb same =
     let last = cid_last c d x y fa fb (ap (drop 5) same) in
     (ap Hold last.0, last.1)
+outcome_apart replicas (Take count) (Take other) x y fa fb same =
+    let last = number_last count other x y fa fb (ap (drop 5) same) in
+    (ap Take last.0, last.1)
 outcome_apart replicas (Got c) (Got d) x y fa fb same =
     let last = cid_last c d x y fa fb (ap (drop 4) same) in
     (ap Got last.0, last.1)
 outcome_apart replicas (Stale c) (Stale d) x y fa fb same =
     let last = cid_last c d x y fa fb (ap (drop 6) same) in
     (ap Stale last.0, last.1)
+outcome_apart replicas (ClockAt reading) (ClockAt other) x y fa fb same =
+    let last = number_last reading other x y fa fb (ap (drop 6) same) in
+    (ap ClockAt last.0, last.1)
 outcome_apart replicas (NoMessage message) (NoMessage other) x y fa fb same =
     let last = number_last message other x y fa fb (ap (drop 5) same) in
     (ap NoMessage last.0, last.1)
@@ -160,21 +145,22 @@ outcome_apart replicas (Refuse why) (Refuse other) x y fa fb same =
 outcome_apart replicas (State line) (State other) x y fa fb same =
     let last = state_apart replicas line other x y fa fb same in
     (ap State last.0, last.1)
-outcome_apart replicas (Take count) (Take other) x y fa fb same =
-    let last = number_last count other x y fa fb (ap (drop 5) same) in
-    (ap Take last.0, last.1)
 outcome_apart replicas (Send _ _ _ _) (Stale _) x y fa fb same = unlike 1 _ _ refl same
 outcome_apart replicas (Send _ _ _ _) (State _) x y fa fb same = unlike 1 _ _ refl same
 outcome_apart replicas (Stale _) (Send _ _ _ _) x y fa fb same = unlike 1 _ _ refl same
 outcome_apart replicas (Stale _) (State _) x y fa fb same = unlike 3 _ _ refl same
 outcome_apart replicas (State _) (Send _ _ _ _) x y fa fb same = unlike 1 _ _ refl same
 outcome_apart replicas (State _) (Stale _) x y fa fb same = unlike 3 _ _ refl same
-outcome_apart replicas (Take _) _ x y fa fb same = unlike 0 _ _ refl same
+outcome_apart replicas (Note _ _) (NoMessage _) x y fa fb same = unlike 2 _ _ refl same
+outcome_apart replicas (NoMessage _) (Note _ _) x y fa fb same = unlike 2 _ _ refl same
 outcome_apart replicas (Send _ _ _ _) _ x y fa fb same = unlike 0 _ _ refl same
 outcome_apart replicas (Accept _ _) _ x y fa fb same = unlike 0 _ _ refl same
+outcome_apart replicas (Note _ _) _ x y fa fb same = unlike 0 _ _ refl same
 outcome_apart replicas (Hold _) _ x y fa fb same = unlike 0 _ _ refl same
+outcome_apart replicas (Take _) _ x y fa fb same = unlike 0 _ _ refl same
 outcome_apart replicas (Got _) _ x y fa fb same = unlike 0 _ _ refl same
 outcome_apart replicas (Stale _) _ x y fa fb same = unlike 0 _ _ refl same
+outcome_apart replicas (ClockAt _) _ x y fa fb same = unlike 0 _ _ refl same
 outcome_apart replicas (NoMessage _) _ x y fa fb same = unlike 0 _ _ refl same
 outcome_apart replicas (Refuse _) _ x y fa fb same = unlike 0 _ _ refl same
 outcome_apart replicas (State _) _ x y fa fb same = unlike 0 _ _ refl same

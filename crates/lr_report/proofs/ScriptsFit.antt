@@ -7,7 +7,7 @@ use Rattle.lr_base.specs.ByteLaws.{length-flat_map-le}
 use Rattle.lr_base.specs.Limits.{most_script_bytes-is}
 use Rattle.lr_base.specs.Meaning.{Meaning}
 use Rattle.lr_base.specs.declared.events.Event.{Event}
-use Rattle.lr_base.specs.declared.events.Event.TheVariants.{Call, Deliver, Gossip as GossipEvent, Show}
+use Rattle.lr_base.specs.declared.events.Event.TheVariants.{Call, Resend, Ack, Deliver, Tick, Gossip as GossipEvent, Show}
 use Rattle.lr_base.specs.declared.events.Step.{Step}
 use Rattle.lr_base.specs.declared.names.Config.{Config}
 use Rattle.lr_graph.specs.Closed.{Each}
@@ -24,7 +24,10 @@ module _ {Value Op : Type 0} (m : Meaning Value Op) where
   -- the number fits that an event of a script brings
   event-brings : (event : Event Op) → EventFits m event → EventNumberFits event
   event-brings (Call client replica reading op) fits = fits.2
+  event-brings (Resend client replica reading) fits = fits.2
+  event-brings (Ack client replica reading) fits = fits.2
   event-brings (Deliver message) fits = fits
+  event-brings (Tick replica reading) fits = fits.1
   event-brings (GossipEvent from to) fits = tt
   event-brings (Show replica) fits = tt
 

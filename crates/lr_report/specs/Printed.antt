@@ -4,12 +4,14 @@ use Rattle.std.specs.Fmt.{decimal}
 use Rattle.std.specs.List.{flat_map}
 use Rattle.lr_base.specs.Meaning.{Meaning}
 use Rattle.lr_base.specs.declared.events.Outcome.{Outcome}
-use Rattle.lr_base.specs.declared.events.Outcome.TheVariants.{Send, Accept, Hold, Take, Got, Stale}
-use Rattle.lr_base.specs.declared.events.Outcome.TheVariants.{NoMessage, Refuse, State}
+use Rattle.lr_base.specs.declared.events.Outcome.TheVariants.{Send, Accept, Note, Hold, Take, Got, Stale}
+use Rattle.lr_base.specs.declared.events.Outcome.TheVariants.{ClockAt, NoMessage, Refuse, State}
 use Rattle.lr_base.specs.declared.events.Refusal.{Refusal}
-use Rattle.lr_base.specs.declared.events.Refusal.TheVariants.{Late, Again, Settled, FullLog, FullHeld, Worn, Unfinished}
+use Rattle.lr_base.specs.declared.events.Refusal.TheVariants.{Late, Again, Settled, Noted}
+use Rattle.lr_base.specs.declared.events.Refusal.TheVariants.{FullLog, FullHeld, Worn, Unfinished}
+use Rattle.lr_base.specs.declared.events.Refusal.TheVariants.{Idle, Nothing}
 use Rattle.lr_base.specs.declared.events.Sent.{Sent}
-use Rattle.lr_base.specs.declared.events.Sent.TheVariants.{Update, Query, Done, Answer, Gossip}
+use Rattle.lr_base.specs.declared.events.Sent.TheVariants.{Update, Query, Ack, Done, Answer, Gossip}
 use Rattle.lr_base.specs.declared.events.StateLine.{StateLine}
 use Rattle.lr_base.specs.declared.events.Step.{Step}
 use Rattle.lr_base.specs.declared.names.Config.{Config}
@@ -34,6 +36,7 @@ mark_text mark = decimal mark.0 ++ (codes "/" ++ decimal mark.1)
 abbrev pub sent_text : ℕ → Sent → List ℕ
 sent_text replicas (Update cid time) = codes "update " ++ (cid_text cid ++ (codes " at " ++ decimal time))
 sent_text replicas (Query cid) = codes "query " ++ cid_text cid
+sent_text replicas (Ack cid time) = codes "ack " ++ (cid_text cid ++ (codes " at " ++ decimal time))
 sent_text replicas (Done cid spot) = codes "done " ++ (cid_text cid ++ (codes " as " ++ spot_text replicas spot))
 sent_text replicas (Answer cid text) = codes "answer " ++ (cid_text cid ++ (codes " " ++ text))
 sent_text replicas Gossip = codes "gossip"
@@ -44,10 +47,13 @@ abbrev pub refusal_text : ℕ → Refusal → List ℕ
 refusal_text replicas (Late time clock) = codes "late " ++ (decimal time ++ (codes " " ++ decimal clock))
 refusal_text replicas (Again spot) = codes "again " ++ spot_text replicas spot
 refusal_text replicas Settled = codes "settled"
+refusal_text replicas (Noted spot) = codes "noted " ++ spot_text replicas spot
 refusal_text replicas FullLog = codes "full log"
 refusal_text replicas FullHeld = codes "full held"
 refusal_text replicas Worn = codes "worn"
 refusal_text replicas (Unfinished cid) = codes "open " ++ cid_text cid
+refusal_text replicas Idle = codes "idle"
+refusal_text replicas Nothing = codes "nothing"
 
 -- a state's first fields: the replica, its view and its clock
 abbrev pub clock_fields : StateLine → List ℕ
@@ -76,10 +82,12 @@ outcome_text replicas (Send number from to what) =
     codes "send " ++ (decimal number ++ (codes " " ++ (actor_text from
     ++ (codes " " ++ (actor_text to ++ (codes " " ++ sent_text replicas what))))))
 outcome_text replicas (Accept spot cid) = codes "accept " ++ (spot_text replicas spot ++ (codes " " ++ cid_text cid))
+outcome_text replicas (Note spot cid) = codes "note " ++ (spot_text replicas spot ++ (codes " " ++ cid_text cid))
 outcome_text replicas (Hold cid) = codes "hold " ++ cid_text cid
 outcome_text replicas (Take count) = codes "take " ++ decimal count
 outcome_text replicas (Got cid) = codes "got " ++ cid_text cid
 outcome_text replicas (Stale cid) = codes "stale " ++ cid_text cid
+outcome_text replicas (ClockAt reading) = codes "clock " ++ decimal reading
 outcome_text replicas (NoMessage message) = codes "none " ++ decimal message
 outcome_text replicas (Refuse why) = codes "refuse " ++ refusal_text replicas why
 outcome_text replicas (State line) = clock_fields line ++ (log_fields replicas line ++ call_fields line)

@@ -16,7 +16,7 @@ cid_text cid = decimal cid.client ++ (codes "." ++ decimal cid.seq)
 abbrev pub place_text : ℕ → ℕ → List ℕ
 place_text replicas place = cond (place == replicas) (codes "o") (decimal place)
 
--- where an update was accepted: the place and its count, in a run with so many replicas
+-- where an item stands, an update or an acknowledgement: the place and its count, in a run with so many replicas
 -- for example: `0:1`
 abbrev pub spot_text : ℕ → Spot → List ℕ
 spot_text replicas spot = place_text replicas spot.place ++ (codes ":" ++ decimal spot.number)

@@ -30,33 +30,67 @@ fn put_outcome(replicas: u8, outcome: &Outcome, out: &mut Text) -> Result<(), No
             put_way(*number, *from, *to, out)?;
             put_sent(replicas, what, out)
         }
-        Outcome::Accept { spot, cid } => put_acceptance(replicas, *spot, *cid, out),
-        Outcome::Hold { cid } => {
-            out.extend(b"hold ")?;
-            put_cid(*cid, out)
-        }
-        Outcome::Take { count } => {
-            out.extend(b"take ")?;
-            put_number(*count, out)
-        }
-        Outcome::Got { cid } => {
-            out.extend(b"got ")?;
-            put_cid(*cid, out)
-        }
-        Outcome::Stale { cid } => {
-            out.extend(b"stale ")?;
-            put_cid(*cid, out)
-        }
-        Outcome::NoMessage { message } => {
-            out.extend(b"none ")?;
-            put_number(*message, out)
-        }
+        Outcome::Accept { spot, cid } => put_with_item(b"accept ", replicas, *spot, *cid, out),
+        Outcome::Note { spot, cid } => put_with_item(b"note ", replicas, *spot, *cid, out),
+        Outcome::Hold { cid } => put_with_call(b"hold ", *cid, out),
+        Outcome::Take { count } => put_with_number(b"take ", *count, out),
+        Outcome::Got { cid } => put_with_call(b"got ", *cid, out),
+        Outcome::Stale { cid } => put_with_call(b"stale ", *cid, out),
+        Outcome::ClockAt { reading } => put_with_number(b"clock ", *reading, out),
+        Outcome::NoMessage { message } => put_with_number(b"none ", *message, out),
         Outcome::Refuse { why } => {
             out.extend(b"refuse ")?;
             put_refusal(replicas, *why, out)
         }
         Outcome::State { line } => put_state(replicas, line, out),
     }
+}
+
+// The text that stands before it, and then a number.
+fn put_with_number(before: &[u8], number: u64, out: &mut Text) -> Result<(), NoMemory>
+    ensures { OnOk result (out.new ≡ out.old ++ (before.now ++ decimal number)) }
+{
+    out.extend(before)?;
+    put_number(number, out)
+}
+
+fn put_with_call(before: &[u8], cid: Cid, out: &mut Text) -> Result<(), NoMemory>
+    ensures { OnOk result (out.new ≡ out.old ++ (before.now ++ cid_text cid)) }
+{
+    out.extend(before)?;
+    put_cid(cid, out)
+}
+
+fn put_with_spot(before: &[u8], replicas: u8, spot: Spot, out: &mut Text) -> Result<(), NoMemory>
+    ensures { OnOk result (out.new ≡ out.old ++ (before.now ++ spot_text replicas spot)) }
+{
+    out.extend(before)?;
+    put_spot(replicas, spot, out)
+}
+
+// The item of a call: the spot, and then the call.
+fn put_with_item(
+    before: &[u8],
+    replicas: u8,
+    spot: Spot,
+    cid: Cid,
+    out: &mut Text,
+) -> Result<(), NoMemory>
+    ensures { OnOk result (out.new ≡ out.old
+        ++ (before.now ++ (spot_text replicas spot ++ (codes " " ++ cid_text cid)))) }
+{
+    put_with_spot(before, replicas, spot, out)?;
+    out.extend(b" ")?;
+    put_cid(cid, out)
+}
+
+// A call, and the time of the front end's clock.
+fn put_with_time(before: &[u8], cid: Cid, time: u64, out: &mut Text) -> Result<(), NoMemory>
+    ensures { OnOk result (out.new ≡ out.old ++ (before.now ++ (cid_text cid ++ (codes " at " ++ decimal time)))) }
+{
+    put_with_call(before, cid, out)?;
+    out.extend(b" at ")?;
+    put_number(time, out)
 }
 
 // A message's number and the way that it goes, up to the space behind its receiver.
@@ -77,25 +111,15 @@ fn put_sent(replicas: u8, what: &Sent, out: &mut Text) -> Result<(), NoMemory>
     ensures { OnOk result (out.new ≡ out.old ++ sent_text replicas what.now) }
 {
     match what {
-        Sent::Update { cid, time } => {
-            out.extend(b"update ")?;
-            put_cid(*cid, out)?;
-            out.extend(b" at ")?;
-            put_number(*time, out)
-        }
-        Sent::Query { cid } => {
-            out.extend(b"query ")?;
-            put_cid(*cid, out)
-        }
+        Sent::Update { cid, time } => put_with_time(b"update ", *cid, *time, out),
+        Sent::Query { cid } => put_with_call(b"query ", *cid, out),
+        Sent::Ack { cid, time } => put_with_time(b"ack ", *cid, *time, out),
         Sent::Done { cid, spot } => {
-            out.extend(b"done ")?;
-            put_cid(*cid, out)?;
-            out.extend(b" as ")?;
-            put_spot(replicas, *spot, out)
+            put_with_call(b"done ", *cid, out)?;
+            put_with_spot(b" as ", replicas, *spot, out)
         }
         Sent::Answer { cid, text } => {
-            out.extend(b"answer ")?;
-            put_cid(*cid, out)?;
+            put_with_call(b"answer ", *cid, out)?;
             out.extend(b" ")?;
             out.extend(text.as_slice())
         }
@@ -103,37 +127,22 @@ fn put_sent(replicas: u8, what: &Sent, out: &mut Text) -> Result<(), NoMemory>
     }
 }
 
-fn put_acceptance(replicas: u8, spot: Spot, cid: Cid, out: &mut Text) -> Result<(), NoMemory>
-    ensures { OnOk result (out.new ≡ out.old
-        ++ (codes "accept " ++ (spot_text replicas spot ++ (codes " " ++ cid_text cid)))) }
-{
-    out.extend(b"accept ")?;
-    put_spot(replicas, spot, out)?;
-    out.extend(b" ")?;
-    put_cid(cid, out)
-}
-
 fn put_refusal(replicas: u8, why: Refusal, out: &mut Text) -> Result<(), NoMemory>
     ensures { OnOk result (out.new ≡ out.old ++ refusal_text replicas why) }
 {
     match why {
         Refusal::Late { time, clock } => {
-            out.extend(b"late ")?;
-            put_number(time, out)?;
-            out.extend(b" ")?;
-            put_number(clock, out)
+            put_with_number(b"late ", time, out)?;
+            put_with_number(b" ", clock, out)
         }
-        Refusal::Again { spot } => {
-            out.extend(b"again ")?;
-            put_spot(replicas, spot, out)
-        }
+        Refusal::Again { spot } => put_with_spot(b"again ", replicas, spot, out),
         Refusal::Settled => out.extend(b"settled"),
+        Refusal::Noted { spot } => put_with_spot(b"noted ", replicas, spot, out),
         Refusal::FullLog => out.extend(b"full log"),
         Refusal::FullHeld => out.extend(b"full held"),
         Refusal::Worn => out.extend(b"worn"),
-        Refusal::Unfinished { cid } => {
-            out.extend(b"open ")?;
-            put_cid(cid, out)
-        }
+        Refusal::Unfinished { cid } => put_with_call(b"open ", cid, out),
+        Refusal::Idle => out.extend(b"idle"),
+        Refusal::Nothing => out.extend(b"nothing"),
     }
 }

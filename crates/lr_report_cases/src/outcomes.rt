@@ -30,6 +30,16 @@ pub fn replied(number: u64, what: Sent) -> Outcome {
     }
 }
 
+/// From the first replica to the second.
+pub fn spread(number: u64) -> Outcome {
+    Outcome::Send {
+        number,
+        from: Actor::Replica(0),
+        to: Actor::Replica(1),
+        what: Sent::Gossip,
+    }
+}
+
 pub fn update() -> Sent {
     Sent::Update {
         cid: cid(0, 1),
@@ -39,6 +49,13 @@ pub fn update() -> Sent {
 
 pub fn query() -> Sent {
     Sent::Query { cid: cid(0, 2) }
+}
+
+pub fn ack() -> Sent {
+    Sent::Ack {
+        cid: cid(0, 1),
+        time: 7,
+    }
 }
 
 pub fn done() -> Sent {
@@ -58,6 +75,14 @@ pub fn answer(alloc: Global) -> Result<Sent, NoMemory> {
 pub fn acceptance() -> Outcome {
     Outcome::Accept {
         spot: spot(0, 1),
+        cid: cid(0, 1),
+    }
+}
+
+/// The acknowledgement of that update, behind it.
+pub fn note() -> Outcome {
+    Outcome::Note {
+        spot: spot(0, 2),
         cid: cid(0, 1),
     }
 }
@@ -102,7 +127,7 @@ pub fn full_state(alloc: Global) -> Result<Outcome, NoMemory> {
 }
 
 /// Each reason why nothing is done.
-pub const REFUSALS: [Refusal; 7] = [
+pub const REFUSALS: [Refusal; 10] = [
     Refusal::Late { time: 3, clock: 14 },
     Refusal::Again {
         spot: Spot {
@@ -111,10 +136,18 @@ pub const REFUSALS: [Refusal; 7] = [
         },
     },
     Refusal::Settled,
+    Refusal::Noted {
+        spot: Spot {
+            place: 0,
+            number: 2,
+        },
+    },
     Refusal::FullLog,
     Refusal::FullHeld,
     Refusal::Worn,
     Refusal::Unfinished {
         cid: Cid { client: 0, seq: 2 },
     },
+    Refusal::Idle,
+    Refusal::Nothing,
 ];

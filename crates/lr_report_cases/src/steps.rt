@@ -1,7 +1,7 @@
 //! Steps and headers, printed one after another.
 use crate::outcomes;
 use lr_base::lr_service::Service;
-use lr_base::{Config, Event, NoMemory, Outcome, Rows, Step, Text};
+use lr_base::{Config, Event, NoMemory, Outcome, Refusal, Rows, Step, Text};
 use lr_report::{render_header, render_printed_step, render_step};
 use lr_script::{Header, Name};
 use std::alloc::Global;
@@ -80,7 +80,9 @@ fn put_sent(alloc: Global, out: &mut Text) -> Result<(), NoMemory> {
         out,
     )?;
     let answer = outcomes::answer(alloc)?;
-    put(alloc, ONE_REPLICA, outcomes::replied(4, answer), out)
+    put(alloc, ONE_REPLICA, outcomes::replied(4, answer), out)?;
+    put(alloc, ONE_REPLICA, outcomes::asked(5, outcomes::ack()), out)?;
+    put(alloc, TWO_REPLICAS, outcomes::spread(6), out)
 }
 
 // What else one replica and one client do.
@@ -88,9 +90,11 @@ fn put_others(alloc: Global, out: &mut Text) -> Result<(), NoMemory> {
     let got = outcomes::cid(0, 1);
     let held = outcomes::cid(0, 3);
     put(alloc, ONE_REPLICA, outcomes::acceptance(), out)?;
+    put(alloc, ONE_REPLICA, outcomes::note(), out)?;
     put(alloc, ONE_REPLICA, Outcome::Got { cid: got }, out)?;
     put(alloc, ONE_REPLICA, Outcome::Stale { cid: got }, out)?;
     put(alloc, ONE_REPLICA, Outcome::Hold { cid: held }, out)?;
+    put(alloc, ONE_REPLICA, Outcome::ClockAt { reading: 14 }, out)?;
     put(alloc, ONE_REPLICA, Outcome::NoMessage { message: 9 }, out)?;
     put(alloc, ONE_REPLICA, Outcome::Take { count: 12 }, out)?;
     put(alloc, ONE_REPLICA, outcomes::first_state(alloc)?, out)
@@ -103,7 +107,7 @@ fn put_refusals(alloc: Global, out: &mut Text) -> Result<(), NoMemory> {
     Ok(())
 }
 
-// A history of two events: an update is called, and delivered.
+// A history: an update is called and delivered, its reply is taken and acknowledged.
 fn put_history(alloc: Global, out: &mut Text) -> Result<(), NoMemory> {
     let header = Header {
         service: Name::Tally,
@@ -125,5 +129,45 @@ fn put_history(alloc: Global, out: &mut Text) -> Result<(), NoMemory> {
         .push(outcomes::replied(2, outcomes::done()))?;
     render_header(&header, out)?;
     render_step::<Tally>(ONE_REPLICA, 1, &called, out)?;
-    render_step::<Tally>(ONE_REPLICA, 2, &delivered, out)
+    render_step::<Tally>(ONE_REPLICA, 2, &delivered, out)?;
+    put_rest(alloc, out)
+}
+
+// The events of this history from its third on.
+fn put_rest(alloc: Global, out: &mut Text) -> Result<(), NoMemory> {
+    let (client, replica) = (0, 0);
+    let cid = outcomes::cid(0, 1);
+    let why = Refusal::Idle;
+    let ack = Event::Ack {
+        client,
+        replica,
+        reading: 7,
+    };
+    let resend = Event::Resend {
+        client,
+        replica,
+        reading: 8,
+    };
+    let tick = Event::Tick {
+        replica,
+        reading: 14,
+    };
+    let replied = Event::Deliver { message: 2 };
+    put_step(alloc, 3, replied, Outcome::Got { cid }, out)?;
+    put_step(alloc, 4, ack, outcomes::asked(3, outcomes::ack()), out)?;
+    let acknowledged = Event::Deliver { message: 3 };
+    put_step(alloc, 5, acknowledged, outcomes::note(), out)?;
+    put_step(alloc, 6, resend, Outcome::Refuse { why }, out)?;
+    put_step(alloc, 7, tick, Outcome::ClockAt { reading: 14 }, out)
+}
+
+fn put_step(
+    alloc: Global,
+    number: u64,
+    event: Event<TallyOp>,
+    outcome: Outcome,
+    out: &mut Text,
+) -> Result<(), NoMemory> {
+    let step = step_of(alloc, event, outcome)?;
+    render_step::<Tally>(ONE_REPLICA, number, &step, out)
 }

@@ -8,15 +8,14 @@ use Rattle.lr_base.specs.Limits.{most_script_bytes}
 use Rattle.lr_base.specs.Meaning.{Meaning, is_printable}
 use Rattle.lr_base.specs.declared.events.Event.{Event}
 use Rattle.lr_base.specs.declared.names.Config.{Config}
-use Rattle.lr_script.specs.Faults.{BeginsUnprintable, HasBadByte, HasUnprintable, IsBadAt, IsBadEvent, IsBadFields, IsBadHead, IsBadLine, IsEnded, IsNoLine, IsScriptFault, bad_head, bad_rest, empty, no_event, no_header, no_line, too_long}
+use Rattle.lr_script.specs.Faults.{BeginsUnprintable, HasBadByte, IsBadHead, IsBadLine, IsNoLine, IsScriptFault, bad_head, empty, no_header, no_line, too_long}
 use Rattle.lr_script.specs.Script.{EventFits, Fits, IsSetUp, events_text, line_of, script_text}
 use Rattle.lr_script.specs.Texts.{event_text, header_text}
 use Rattle.lr_script.specs.declared.heading.Header.{Header}
-use Rattle.lr_script.specs.declared.fields.EventWord.{EventWord}
-use Rattle.lr_script.specs.declared.fields.EventWord.TheVariants.{Call, Deliver, Gossip, Show}
 use Rattle.lr_script.specs.declared.refusals.Cause.{Cause}
 use Rattle.lr_script.specs.declared.refusals.Cause.TheVariants.{Byte}
 use Rattle.lr_script.specs.declared.refusals.ScriptFault.TheVariants.{Line}
+use Rattle.lr_script.proofs.EventRefusals.{line_of_event}
 use Rattle.lr_script.proofs.LineCuts.{fed_behind, or_true, printable_cut}
 use Rattle.lr_script.proofs.OneMeaning.{all_fit}
 use Rattle.lr_script.proofs.Printables.{unended_around}
@@ -168,20 +167,8 @@ head_byte bytes line cause is (no_header text later short e printable none) = ab
 
 module _ {Value Op : Type 0} (m : Meaning Value Op) where
   -- no printable line has a bad byte
-  fields_byte : (config : Config) (word : EventWord) (rest : List ℕ) → IsBadFields m config word rest Byte → ⊥
-  fields_byte config Call rest bad = bad
-  fields_byte config Deliver rest bad = bad
-  fields_byte config Gossip rest bad = bad
-  fields_byte config Show rest bad = bad
-
-  event_byte : (config : Config) (line : List ℕ) (cause : Cause) → cause ≡ Byte → IsBadEvent m config line cause → ⊥
-  event_byte config line cause is (Rattle.lr_script.specs.Faults.no_word alone behind) = cc
-  event_byte config line cause is (Rattle.lr_script.specs.Faults.word_alone word e) = cc
-  event_byte config line cause is (bad_rest word rest why e bad) = fields_byte config word rest (subst (λ (c : Cause). IsBadFields m config word rest c) is bad)
-
-  line_byte : (config : Config) (bytes : List ℕ) (cause : Cause) → cause ≡ Byte → IsBadLine m config bytes cause → HasBadByte bytes
-  line_byte config bytes cause is (no_line why bad) = subst (λ (c : Cause). IsNoLine bytes c) is bad
-  line_byte config bytes cause is (no_event line later why e printable bad) = absurd (event_byte config line why is bad)
+  line_byte : (config : Config) → IsSetUp config → (bytes : List ℕ) → IsBadLine m config bytes Byte → HasBadByte bytes
+  line_byte config set bytes bad = elim (line_of_event m config set bytes Byte bad) [ inl none ↦ none | inr other ↦ absurd other ]
 
   -- what stands behind as many lines of events is one
   rest_one : ArePrintable m → (events others : List (Event Op)) (rest more : List ℕ) → All (EventFits m) events → All (EventFits m) others → length events ≡ length others → events_text m events ++ rest ≡ events_text m others ++ more → rest ≡ more
@@ -218,7 +205,7 @@ module _ {Value Op : Type 0} (m : Meaning Value Op) where
           let head = head_one bytes bad.header header bad.lines (events_text m events ++ rest) bad.valid set bad.text text in
           let number = bad.bad.number in
           let same = rest_one ops bad.bad.events events bad.bad.rest rest (all_fit m ops bad.header.config bad.bad.events bad.bad.fit) (all_fit m ops header.config events fit) (omega arith) (sym bad.bad.text ∙ head.1) in
-          (bad_byte_is rest).0 (subst HasBadByte same (line_byte bad.header.config bad.bad.rest Byte refl bad.bad.bad))
+          (bad_byte_is rest).0 (subst HasBadByte same (line_byte bad.header.config bad.valid bad.bad.rest bad.bad.bad))
 
       refused : BeginsUnprintable rest → IsScriptFault m bytes (Line (length events + 2) Byte)
       refused h =

@@ -12,7 +12,7 @@ use Rattle.lr_script.specs.Texts.{config_text, service_text}
 use Rattle.lr_script.specs.declared.heading.Name.{Name}
 use Rattle.lr_script.specs.declared.heading.Name.TheVariants.{Tally, Mail, Claims}
 use Rattle.lr_script.specs.declared.fields.EventWord.{EventWord}
-use Rattle.lr_script.specs.declared.fields.EventWord.TheVariants.{Call, Deliver, Gossip, Show}
+use Rattle.lr_script.specs.declared.fields.EventWord.TheVariants.{Call, Resend, Ack, Deliver, Tick, Gossip, Show}
 use Rattle.lr_script.specs.CutLaws.{cut_one}
 use Rattle.lr_script.proofs.Splits.{spaces-append, spaces_behind}
 
@@ -31,7 +31,10 @@ field_one f g r s e hf hg = cut_one (λ x. not (eqb x 32)) 32 refl f g r s e (sp
 -- a word holds no space
 pub word_spaceless : (word : EventWord) → spaces (word_text word) ≡ 0
 word_spaceless Call = refl
+word_spaceless Resend = refl
+word_spaceless Ack = refl
 word_spaceless Deliver = refl
+word_spaceless Tick = refl
 word_spaceless Gossip = refl
 word_spaceless Show = refl
 

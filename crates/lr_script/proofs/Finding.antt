@@ -13,7 +13,7 @@ use Rattle.lr_script.specs.Fields.{IsNoNumber, spaces, word_text}
 use Rattle.lr_script.specs.Faults.{IsNoLine}
 use Rattle.lr_script.specs.Texts.{service_text}
 use Rattle.lr_script.specs.declared.fields.EventWord.{EventWord}
-use Rattle.lr_script.specs.declared.fields.EventWord.TheVariants.{Call, Deliver, Gossip, Show}
+use Rattle.lr_script.specs.declared.fields.EventWord.TheVariants.{Call, Resend, Ack, Deliver, Tick, Gossip, Show}
 use Rattle.lr_script.specs.declared.heading.Name.{Name}
 use Rattle.lr_script.specs.declared.heading.Name.TheVariants.{Tally, Mail, Claims}
 use Rattle.lr_script.specs.declared.refusals.Cause.{Cause}
@@ -133,26 +133,38 @@ line_or_none (byte ∷ bytes) = go (nat_le 32 byte && nat_le byte 126) refl (lin
 -- an event's word
 pub word_or_none : (field : List ℕ) → ((word : EventWord) × (field ≡ word_text word))
     ⊎ ((word : EventWord) → field ≢ word_text word)
-word_or_none field = go (same Call) (same Deliver) (same Gossip) (same Show)
+word_or_none field = go (same Call) (same Resend) (same Ack) (same Deliver) (same Tick) (same Gossip) (same Show)
   where
-    same : (word : EventWord) → (field ≡ word_text word) ⊎ (field ≢ word_text word)
+    Is : EventWord → Type 0
+    Is word = field ≡ word_text word
+
+    Other : EventWord → Type 0
+    Other word = field ≢ word_text word
+
+    same : (word : EventWord) → Is word ⊎ Other word
     same word = same_or_other field (word_text word)
 
-    none : field ≢ word_text Call → field ≢ word_text Deliver → field ≢ word_text Gossip → field ≢ word_text Show
-        → (word : EventWord) → field ≢ word_text word
-    none c d g s Call = c
-    none c d g s Deliver = d
-    none c d g s Gossip = g
-    none c d g s Show = s
+    none : Other Call → Other Resend → Other Ack → Other Deliver → Other Tick → Other Gossip → Other Show
+        → (word : EventWord) → Other word
+    none c r a d t g s Call = c
+    none c r a d t g s Resend = r
+    none c r a d t g s Ack = a
+    none c r a d t g s Deliver = d
+    none c r a d t g s Tick = t
+    none c r a d t g s Gossip = g
+    none c r a d t g s Show = s
 
-    go : (field ≡ word_text Call) ⊎ (field ≢ word_text Call) → (field ≡ word_text Deliver) ⊎ (field ≢ word_text Deliver)
-        → (field ≡ word_text Gossip) ⊎ (field ≢ word_text Gossip) → (field ≡ word_text Show) ⊎ (field ≢ word_text Show)
-        → ((word : EventWord) × (field ≡ word_text word)) ⊎ ((word : EventWord) → field ≢ word_text word)
-    go (inl is) d g s = inl (Call, is)
-    go (inr c) (inl is) g s = inl (Deliver, is)
-    go (inr c) (inr d) (inl is) s = inl (Gossip, is)
-    go (inr c) (inr d) (inr g) (inl is) = inl (Show, is)
-    go (inr c) (inr d) (inr g) (inr s) = inr (none c d g s)
+    go : Is Call ⊎ Other Call → Is Resend ⊎ Other Resend → Is Ack ⊎ Other Ack → Is Deliver ⊎ Other Deliver
+        → Is Tick ⊎ Other Tick → Is Gossip ⊎ Other Gossip → Is Show ⊎ Other Show
+        → ((word : EventWord) × Is word) ⊎ ((word : EventWord) → Other word)
+    go (inl is) r a d t g s = inl (Call, is)
+    go (inr c) (inl is) a d t g s = inl (Resend, is)
+    go (inr c) (inr r) (inl is) d t g s = inl (Ack, is)
+    go (inr c) (inr r) (inr a) (inl is) t g s = inl (Deliver, is)
+    go (inr c) (inr r) (inr a) (inr d) (inl is) g s = inl (Tick, is)
+    go (inr c) (inr r) (inr a) (inr d) (inr t) (inl is) s = inl (Gossip, is)
+    go (inr c) (inr r) (inr a) (inr d) (inr t) (inr g) (inl is) = inl (Show, is)
+    go (inr c) (inr r) (inr a) (inr d) (inr t) (inr g) (inr s) = inr (none c r a d t g s)
 
 -- a service's name
 pub service_or_none : (field : List ℕ) → ((name : Name) × (field ≡ service_text name))

@@ -1,5 +1,5 @@
 -- A call is found in the fields behind its word, or why there is none.
-use Rattle.std.proofs.Common.{◌≡◌, ◌⊎◌, inl, inr, ◌<◌, ◌≤◌, ℕ, Bool, true, false, List, ◌∷◌, ◌++◌, refl, sym, ◌∙◌, ap, arith}
+use Rattle.std.proofs.Common.{◌≡◌, ◌⊎◌, inl, inr, ℕ, Bool, true, false, List, ◌∷◌, ◌++◌, refl, sym, ◌∙◌, ap, arith}
 use Rattle.std.specs.Prelude.{Option, Some, None, codes}
 use Rattle.std.specs.Fmt.{decimal}
 use Rattle.std.proofs.lemmas.Bool.{and_from, and_parts}
@@ -9,12 +9,14 @@ use Rattle.lr_base.specs.OpLaws.{found-op, no-text}
 use Rattle.lr_base.specs.declared.events.Event.TheVariants.{Call}
 use Rattle.lr_base.specs.declared.lr_service.Kind.{Kind}
 use Rattle.lr_base.specs.declared.names.Config.{Config}
-use Rattle.lr_script.specs.Fields.{IsCallFields, IsNoNumber, four_fields, spaces}
+use Rattle.lr_script.specs.Fields.{IsCallFields, four_fields, spaces}
+use Rattle.lr_script.specs.Faults.{AreNoSending, IsBadCall}
 use Rattle.lr_script.specs.Script.{IsNoCalled, is_called}
 use Rattle.lr_script.specs.declared.fields.EventWord.TheVariants.{Call as WCall}
+use Rattle.lr_script.specs.declared.refusals.Cause.{Cause}
 use Rattle.lr_script.specs.declared.refusals.Cause.TheVariants.{Fields, Number, Range, Op as NoOp}
-use Rattle.lr_script.proofs.Finding.{IsCut, IsNumber, cut_or_whole, less_or_not, number_or_none}
-use Rattle.lr_script.proofs.FindingEvents.{IsBad, IsBehind}
+use Rattle.lr_script.proofs.Finding.{IsCut, cut_or_whole}
+use Rattle.lr_script.proofs.FindingEvents.{IsBad, IsBehind, IsSending, sending_or_none}
 use Rattle.lr_script.proofs.Splits.{spaces_behind}
 
 module _ {Value Op : Type 0} (m : Meaning Value Op) {e : Encoding Value} {kind_of : Op → Kind}
@@ -45,85 +47,60 @@ module _ {Value Op : Type 0} (m : Meaning Value Op) {e : Encoding Value} {kind_o
 
   module _ (config : Config) (fields client replica reading op : List ℕ)
       (split : IsCallFields fields client replica reading op) where
-    -- three numbers, and what is behind them
-    numbers_or_bad : (a : IsNumber client) (b : IsNumber replica) (c : IsNumber reading)
-        → (a.0 < config.clients) ⊎ (config.clients ≤ a.0) → (b.0 < config.replicas) ⊎ (config.replicas ≤ b.0)
+    no_caller : (cause : Cause) → AreNoSending config client replica reading cause → IsBadCall m config fields cause
+    no_caller Number bad = record {
+      client = client;
+      replica = replica;
+      reading = reading;
+      op = op;
+      split = split;
+      bad = bad;
+    }
+    no_caller Range bad = record {
+      client = client;
+      replica = replica;
+      reading = reading;
+      op = op;
+      split = split;
+      bad = bad;
+    }
+    no_caller _ bad = absurd bad
+
+    -- three fields that have to be a client, a replica and a reading, and what is behind them
+    four_or_bad : IsSending config client replica reading
+        ⊎ ((cause : Cause) × AreNoSending config client replica reading cause)
         → IsCalled op ⊎ IsNoCalled m op → IsBehind m config WCall fields ⊎ IsBad m config WCall fields
-    numbers_or_bad a b c = go
+    four_or_bad (inr bad) op = inr (bad.0, no_caller bad.0 bad.1)
+    four_or_bad (inl has) found = go found
       where
-        text : fields ≡ four_fields (decimal a.0) (decimal b.0) (decimal c.0) op
-        text = split.text ∙ ap (λ t. four_fields t replica reading op) a.1
-            ∙ ap (λ t. four_fields (decimal a.0) t reading op) b.1
-            ∙ ap (λ t. four_fields (decimal a.0) (decimal b.0) t op) c.1
+        text : fields ≡ four_fields (decimal has.0.0) (decimal has.1.0) (decimal has.2.0) op
+        text = split.text ∙ ap (λ t. four_fields t replica reading op) has.0.1
+            ∙ ap (λ t. four_fields (decimal has.0.0) t reading op) has.1.1
+            ∙ ap (λ t. four_fields (decimal has.0.0) (decimal has.1.0) t op) has.2.1
 
-        out : (config.clients ≤ a.0) ⊎ (config.replicas ≤ b.0) → IsBad m config WCall fields
-        out bad = (
-          Range,
-          record {
-            client = a.0;
-            replica = b.0;
-            reading = c.0;
-            op = op;
-            text = text;
-            client_number = a.2;
-            replica_number = b.2;
-            reading_number = c.2;
-            bad = bad;
-          },
-        )
-
-        go : (a.0 < config.clients) ⊎ (config.clients ≤ a.0) → (b.0 < config.replicas) ⊎ (config.replicas ≤ b.0)
-            → IsCalled op ⊎ IsNoCalled m op → IsBehind m config WCall fields ⊎ IsBad m config WCall fields
-        go (inl below) (inl under) (inl called) =
+        go : IsCalled op ⊎ IsNoCalled m op → IsBehind m config WCall fields ⊎ IsBad m config WCall fields
+        go (inl called) =
             let parts = and_parts (m.is_op called.0) (has_rules (m.kind called.0)) called.1 in
             inl (
-              Call a.0 b.0 c.0 called.0,
-              ((below, under, parts.1), (a.2, b.2, c.2, parts.0)),
+              Call has.0.0 has.1.0 has.2.0 called.0,
+              ((has.3, has.4, parts.1), (has.0.2, has.1.2, has.2.2, parts.0)),
               ap (λ t. codes "call " ++ t) (text
-                  ∙ ap (four_fields (decimal a.0) (decimal b.0) (decimal c.0)) (sym called.2)),
+                  ∙ ap (four_fields (decimal has.0.0) (decimal has.1.0) (decimal has.2.0)) (sym called.2)),
             )
-        go (inl below) (inl under) (inr none) = inr (
+        go (inr none) = inr (
           NoOp,
           record {
-            client = a.0;
-            replica = b.0;
-            reading = c.0;
+            client = has.0.0;
+            replica = has.1.0;
+            reading = has.2.0;
             op = op;
             text = text;
-            known_client = below;
-            known_replica = under;
-            reading_number = c.2;
+            known_client = has.3;
+            known_replica = has.4;
+            reading_number = has.2.2;
             bad = none;
           },
         )
-        go (inr bad) replica op = inr (out (inl bad))
-        go (inl below) (inr bad) op = inr (out (inr bad))
-
-    -- three fields that have to be numbers, and what is behind them
-    four_or_bad : IsNumber client ⊎ IsNoNumber client → IsNumber replica ⊎ IsNoNumber replica
-        → IsNumber reading ⊎ IsNoNumber reading → IsBehind m config WCall fields ⊎ IsBad m config WCall fields
-    four_or_bad = go
-      where
-        none : IsNoNumber client ⊎ IsNoNumber replica ⊎ IsNoNumber reading → IsBad m config WCall fields
-        none bad = (
-          Number,
-          record {
-            client = client;
-            replica = replica;
-            reading = reading;
-            op = op;
-            split = split;
-            bad = bad;
-          },
-        )
-
-        go : IsNumber client ⊎ IsNoNumber client → IsNumber replica ⊎ IsNoNumber replica
-            → IsNumber reading ⊎ IsNoNumber reading → IsBehind m config WCall fields ⊎ IsBad m config WCall fields
-        go (inl a) (inl b) (inl c) = numbers_or_bad a b c (less_or_not a.0 config.clients)
-            (less_or_not b.0 config.replicas) (called_or_none op)
-        go (inr bad) b c = inr (none (inl bad))
-        go (inl a) (inr bad) c = inr (none (inr (inl bad)))
-        go (inl a) (inl b) (inr bad) = inr (none (inr (inr bad)))
 
   pub call_or_bad : (config : Config) (fields : List ℕ) → IsBehind m config WCall fields ⊎ IsBad m config WCall fields
   call_or_bad config fields = go (cut_or_whole fields)
@@ -135,7 +112,7 @@ module _ {Value Op : Type 0} (m : Meaning Value Op) {e : Encoding Value} {kind_o
         client_field = cut.3;
         replica_field = next.3;
         reading_field = last.3;
-      }) (number_or_none cut.0) (number_or_none next.0) (number_or_none last.0)
+      }) (sending_or_none config cut.0 next.0 last.0) (called_or_none last.1)
       third cut next (inr whole) = inr (
         Fields,
         (

@@ -12,13 +12,13 @@ use Rattle.lr_script.specs.Faults.{HasMeaning, IsBadAmong, IsBadEvent, IsBadLine
 use Rattle.lr_script.specs.Script.{Fits, events_text, line_of}
 use Rattle.lr_script.specs.Texts.{event_text, header_text}
 use Rattle.lr_script.specs.declared.fields.EventWord.{EventWord}
-use Rattle.lr_script.specs.declared.fields.EventWord.TheVariants.{Call, Deliver, Gossip, Show}
+use Rattle.lr_script.specs.declared.fields.EventWord.TheVariants.{Call, Resend, Ack, Deliver, Tick, Gossip, Show}
 use Rattle.lr_script.specs.declared.refusals.Cause.{Cause}
 use Rattle.lr_script.specs.declared.refusals.Cause.TheVariants.{Event as NoWord, Fields, Header as NoHeader, TooLong}
 use Rattle.lr_script.proofs.Cuts.{field_one, word_spaceless}
 use Rattle.lr_script.proofs.Finding.{IsCut, IsLine, cut_or_whole, less_or_not, line_or_none, word_or_none}
 use Rattle.lr_script.proofs.FindingCalls.{call_or_bad}
-use Rattle.lr_script.proofs.FindingEvents.{IsBad, IsBehind, deliver_or_bad, gossip_or_bad, show_or_bad}
+use Rattle.lr_script.proofs.FindingEvents.{IsBad, IsBehind, ack_or_bad, deliver_or_bad, gossip_or_bad, resend_or_bad, show_or_bad, tick_or_bad}
 use Rattle.lr_script.proofs.FindingHeaders.{IsHeaderLine, IsNoHeaderLine, header_or_none}
 use Rattle.lr_script.proofs.Refusing.{refusal}
 use Rattle.lr_script.proofs.ScriptRefusals.{line_more}
@@ -28,7 +28,10 @@ module _ {Value Op : Type 0} (m : Meaning Value Op) {e : Encoding Value} {kind_o
     (lawful : Lawful m e kind_of) (config : Config) where
   fields_or_bad : (word : EventWord) (fields : List ℕ) → IsBehind m config word fields ⊎ IsBad m config word fields
   fields_or_bad Call fields = call_or_bad m lawful config fields
+  fields_or_bad Resend fields = resend_or_bad m config fields
+  fields_or_bad Ack fields = ack_or_bad m config fields
   fields_or_bad Deliver fields = deliver_or_bad m config fields
+  fields_or_bad Tick fields = tick_or_bad m config fields
   fields_or_bad Gossip fields = gossip_or_bad m config fields
   fields_or_bad Show fields = show_or_bad m config fields
 

@@ -4,7 +4,7 @@ use Rattle.std.specs.Prelude.{IfErr}
 use Rattle.lr_base.specs.Limits.{most_script_bytes}
 use Rattle.lr_base.specs.Meaning.{Meaning}
 use Rattle.lr_base.specs.declared.names.Config.{Config}
-use Rattle.lr_script.specs.Faults.{IsBadAt, IsBadEvent, IsBadFields, IsBadHead, IsBadLine, IsHeadFault, IsLineFault, IsNoLine, IsRefusal, IsRefused, IsScriptFault, bad_head, bad_rest, empty, no_event, no_header, no_line, too_long}
+use Rattle.lr_script.specs.Faults.{IsBadAt, IsBadHead, IsBadLine, IsHeadFault, IsLineFault, IsNoLine, IsRefusal, IsRefused, IsScriptFault, bad_head, empty, no_header, too_long}
 use Rattle.lr_script.specs.declared.refusals.Cause.{Cause}
 use Rattle.lr_script.specs.declared.refusals.Cause.TheVariants.{Header as NoHeader, TooLong}
 use Rattle.lr_script.specs.declared.refusals.ScriptFault.{ScriptFault}
@@ -12,27 +12,14 @@ use Rattle.lr_script.specs.declared.refusals.ScriptFault.TheVariants.{Line, NoMe
 use Rattle.lr_script.specs.declared.heading.Header.{Header}
 use Rattle.lr_script.specs.Script.{IsSetUp, line_of}
 use Rattle.lr_script.specs.Texts.{header_text}
-use Rattle.lr_script.specs.declared.fields.EventWord.{EventWord}
-use Rattle.lr_script.specs.declared.fields.EventWord.TheVariants.{Call, Deliver, Gossip, Show}
+use Rattle.lr_script.proofs.EventRefusals.{line_of_event}
 use Rattle.lr_script.proofs.ScriptRefusals.{head_fault, lines_fault, refuted}
 use Rattle.lr_script.proofs.ShownTexts.{ArePrintable}
 
 module _ {Value Op : Type 0} (m : Meaning Value Op) where
   -- no line is too long
-  fields_fit : (config : Config) (word : EventWord) (rest : List ℕ) → IsBadFields m config word rest TooLong → ⊥
-  fields_fit config Call rest bad = bad
-  fields_fit config Deliver rest bad = bad
-  fields_fit config Gossip rest bad = bad
-  fields_fit config Show rest bad = bad
-
-  event_fits : (config : Config) (line : List ℕ) (cause : Cause) → cause ≡ TooLong → IsBadEvent m config line cause → ⊥
-  event_fits config line cause is (Rattle.lr_script.specs.Faults.no_word alone behind) = cc
-  event_fits config line cause is (Rattle.lr_script.specs.Faults.word_alone word e) = cc
-  event_fits config line cause is (bad_rest word rest why e bad) = fields_fit config word rest (subst (λ (c : Cause). IsBadFields m config word rest c) is bad)
-
-  line_fits : (config : Config) (bytes : List ℕ) (cause : Cause) → cause ≡ TooLong → IsBadLine m config bytes cause → ⊥
-  line_fits config bytes cause is (no_line why bad) = subst (λ (c : Cause). IsNoLine bytes c) is bad
-  line_fits config bytes cause is (no_event line later why e printable bad) = event_fits config line why is bad
+  line_fits : (config : Config) → IsSetUp config → (bytes : List ℕ) → IsBadLine m config bytes TooLong → ⊥
+  line_fits config set bytes bad = elim (line_of_event m config set bytes TooLong bad) [ inl none ↦ none | inr other ↦ other ]
 
   head_long : (bytes : List ℕ) (line : ℕ) (cause : Cause) → IsBadHead bytes line cause → (cause ≡ TooLong) ↔ (most_script_bytes < length bytes)
   head_long bytes line cause (too_long h) = ((λ e. h), (λ l. refl))
@@ -47,7 +34,7 @@ module _ {Value Op : Type 0} (m : Meaning Value Op) where
       header_other e = cc
 
   at_short : (bytes : List ℕ) (line : ℕ) (cause : Cause) → IsBadAt m bytes line cause → (cause ≡ TooLong) ↔ (most_script_bytes < length bytes)
-  at_short bytes line cause at = ((λ is. absurd (line_fits at.header.config at.bad.rest cause is at.bad.bad)), (λ l. let short = at.short in absurd (omega arith)))
+  at_short bytes line cause at = ((λ is. absurd (line_fits at.header.config at.valid at.bad.rest (subst (λ (c : Cause). IsBadLine m at.header.config at.bad.rest c) is at.bad.bad))), (λ l. let short = at.short in absurd (omega arith)))
 
   -- a fault at a line is a refusal
   pub refusal : ArePrintable m → (bytes : List ℕ) (line : ℕ) (cause : Cause) → IsScriptFault m bytes (Line line cause) → IsRefusal m bytes line cause

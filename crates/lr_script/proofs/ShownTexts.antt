@@ -6,12 +6,12 @@ use Rattle.std.proofs.lemmas.Fmt.{decimal_by_steps}
 use Rattle.std.proofs.lemmas.List.Folds.{list_all-append}
 use Rattle.lr_base.specs.Meaning.{Meaning, is_printable}
 use Rattle.lr_base.specs.declared.events.Event.{Event}
-use Rattle.lr_base.specs.declared.events.Event.TheVariants.{Call, Deliver, Gossip, Show}
+use Rattle.lr_base.specs.declared.events.Event.TheVariants.{Call, Resend, Ack, Deliver, Tick, Gossip, Show}
 use Rattle.lr_base.specs.declared.names.Config.{Config}
 use Rattle.lr_script.specs.declared.heading.Header.{Header}
 use Rattle.lr_script.specs.declared.heading.Name.TheVariants.{Tally, Mail, Claims}
 use Rattle.lr_script.specs.Script.{EventFits, IsSetUp}
-use Rattle.lr_script.specs.Texts.{event_text, header_text, config_text, service_text}
+use Rattle.lr_script.specs.Texts.{event_text, header_text, config_text, sending_text, service_text}
 
 -- two tests that pass
 pub both : (a b : Bool) → a ≡ true → b ≡ true → (a && b) ≡ true
@@ -40,6 +40,11 @@ config_printable config set =
 pub header_printable : (header : Header) → IsSetUp header.config → is_printable (header_text header) ≡ true
 header_printable header set = elim header.service as (λ service. is_printable (service_text service ++ 32 ∷ config_text header.config) ≡ true) [ Tally ↦ config_printable header.config set | Mail ↦ config_printable header.config set | Claims ↦ config_printable header.config set ]
 
+pub sending_printable : (client replica reading : ℕ) → client < 2 ^ 64 → replica < 2 ^ 64 → reading < 2 ^ 64 → is_printable (sending_text client replica reading) ≡ true
+sending_printable client replica reading c r t =
+    printable_more (decimal client) (32 ∷ (decimal replica ++ 32 ∷ decimal reading)) (number_printable client c)
+    (printable_more (decimal replica) (32 ∷ decimal reading) (number_printable replica r) (number_printable reading t))
+
 -- each operation's text is printable
 abbrev pub ArePrintable : {Value Op : Type 0} → Meaning Value Op → Type 0
 ArePrintable {Value} {Op} m = (op : Op) → m.is_op op ≡ true → is_printable (m.text op) ≡ true
@@ -49,6 +54,9 @@ event_printable m ops (Call client replica reading op) fits =
     printable_more (decimal client) (32 ∷ (decimal replica ++ 32 ∷ (decimal reading ++ 32 ∷ m.text op))) (number_printable client fits.0)
     (printable_more (decimal replica) (32 ∷ (decimal reading ++ 32 ∷ m.text op)) (number_printable replica fits.1)
     (printable_more (decimal reading) (32 ∷ m.text op) (number_printable reading fits.2) (ops op fits.3)))
+event_printable m ops (Resend client replica reading) fits = sending_printable client replica reading fits.0 fits.1 fits.2
+event_printable m ops (Ack client replica reading) fits = sending_printable client replica reading fits.0 fits.1 fits.2
 event_printable m ops (Deliver message) fits = number_printable message fits
+event_printable m ops (Tick replica reading) fits = printable_more (decimal replica) (32 ∷ decimal reading) (number_printable replica fits.0) (number_printable reading fits.1)
 event_printable m ops (Gossip from to) fits = printable_more (decimal from) (32 ∷ decimal to) (number_printable from fits.0) (number_printable to fits.1)
 event_printable m ops (Show replica) fits = number_printable replica fits

@@ -14,12 +14,12 @@ use Rattle.lr_script.specs.declared.refusals.ScriptFault.TheVariants.{Line, NoMe
 use Rattle.lr_script.specs.declared.event_lines.EventFault.{EventFault}
 use Rattle.lr_script.specs.declared.event_lines.EventFault.TheVariants.{Bad, NoMemory as NoMemoryLeft}
 use Rattle.lr_script.specs.declared.fields.EventWord.{EventWord}
-use Rattle.lr_script.specs.declared.fields.EventWord.TheVariants.{Call, Deliver, Gossip, Show}
+use Rattle.lr_script.specs.declared.fields.EventWord.TheVariants.{Call, Resend, Ack, Deliver, Tick, Gossip, Show}
 use Rattle.lr_script.specs.declared.heading.Header.{Header as Head}
 use Rattle.lr_base.specs.declared.events.Event.{Event}
 use Rattle.lr_script.specs.Texts.{header_text}
 use Rattle.lr_script.specs.Script.{line_of, events_text, IsNoCalled, IsSetUp, Fits, IsNoScript, IsScript}
-use Rattle.lr_script.specs.Fields.{spaces, word_text, four_fields, IsCallFields, IsNoNumber, IsPair}
+use Rattle.lr_script.specs.Fields.{spaces, word_text, four_fields, IsCallFields, IsNoNumber, IsPair, IsTriple}
 
 -- there is a line feed among the bytes
 abbrev pub IsEnded : List ℕ → Type 0
@@ -58,28 +58,36 @@ IsNoLine bytes Unended = list_any (λ byte. byte == 10) bytes ≡ false
 IsNoLine bytes Byte = HasBadByte bytes
 IsNoLine bytes _ = ⊥
 
--- a field that has to be a number isn't one
--- for example: `call x 0 5 read x`
-pub record HasNoNumber (fields : List ℕ) : Type 0 where
+-- three texts are numbers, and there is no such client or no such replica
+-- for example: `9`, `0`, `5` with one client
+pub record AreOutOfRange (config : Config) (client replica reading : List ℕ) : Type 0 where
+  pub client_number : ℕ
+  pub replica_number : ℕ
+  pub reading_number : ℕ
+  pub client_is : client ≡ decimal client_number
+  pub replica_is : replica ≡ decimal replica_number
+  pub reading_is : reading ≡ decimal reading_number
+  pub client_fits : client_number < 2 ^ 64
+  pub replica_fits : replica_number < 2 ^ 64
+  pub reading_fits : reading_number < 2 ^ 64
+  pub bad : (config.clients ≤ client_number) ⊎ (config.replicas ≤ replica_number)
+
+-- three texts are no client, replica and reading: one of them is no number, or there is no such client or replica
+-- for example: `x`, `0`, `5`: `number`
+abbrev pub AreNoSending : Config → List ℕ → List ℕ → List ℕ → Cause → Type 0
+AreNoSending config client replica reading Number = IsNoNumber client ⊎ IsNoNumber replica ⊎ IsNoNumber reading
+AreNoSending config client replica reading Range = AreOutOfRange config client replica reading
+AreNoSending config client replica reading _ = ⊥
+
+-- what stands behind a call's word has fields enough, and doesn't begin with a client, a replica and a reading
+-- for example: `x 0 5 read x`: `number`
+pub record HasNoCaller (config : Config) (fields : List ℕ) (cause : Cause) : Type 0 where
   pub client : List ℕ
   pub replica : List ℕ
   pub reading : List ℕ
   pub op : List ℕ
   pub split : IsCallFields fields client replica reading op
-  pub bad : IsNoNumber client ⊎ IsNoNumber replica ⊎ IsNoNumber reading
-
--- the numbers are numbers, and there is no such client or no such replica
--- for example: `call 9 0 5 read x` with one client
-pub record IsOutOfRange (config : Config) (fields : List ℕ) : Type 0 where
-  pub client : ℕ
-  pub replica : ℕ
-  pub reading : ℕ
-  pub op : List ℕ
-  pub text : fields ≡ four_fields (decimal client) (decimal replica) (decimal reading) op
-  pub client_number : client < 2 ^ 64
-  pub replica_number : replica < 2 ^ 64
-  pub reading_number : reading < 2 ^ 64
-  pub bad : (config.clients ≤ client) ⊎ (config.replicas ≤ replica)
+  pub bad : AreNoSending config client replica reading cause
 
 -- there are such a client and such a replica, and the rest is no operation that has rules
 -- for example: `call 0 0 5 fly`
@@ -98,10 +106,27 @@ pub record HasNoOp {Value Op : Type 0} (m : Meaning Value Op) (config : Config) 
 -- for example: `0 0 5`: `fields`
 abbrev pub IsBadCall : {Value Op : Type 0} → Meaning Value Op → Config → List ℕ → Cause → Type 0
 IsBadCall m config fields Fields = spaces fields < 3
-IsBadCall m config fields Number = HasNoNumber fields
-IsBadCall m config fields Range = IsOutOfRange config fields
+IsBadCall m config fields Number = HasNoCaller config fields Number
+IsBadCall m config fields Range = HasNoCaller config fields Range
 IsBadCall m config fields Op = HasNoOp m config fields
 IsBadCall m config fields _ = ⊥
+
+-- the three fields behind a word are no client, replica and reading
+-- for example: `9 0 5` with one client: `range`
+pub record HasNoSender (config : Config) (fields : List ℕ) (cause : Cause) : Type 0 where
+  pub client : List ℕ
+  pub replica : List ℕ
+  pub reading : List ℕ
+  pub split : IsTriple fields client replica reading
+  pub bad : AreNoSending config client replica reading cause
+
+-- what stands behind the word of a resend or an acknowledgement is no client, replica and reading
+-- for example: `0 0`: `fields`
+abbrev pub IsBadSending : Config → List ℕ → Cause → Type 0
+IsBadSending config fields Fields = spaces fields ≢ 2
+IsBadSending config fields Number = HasNoSender config fields Number
+IsBadSending config fields Range = HasNoSender config fields Range
+IsBadSending config fields _ = ⊥
 
 -- what stands behind a delivery's word is no one number
 -- for example: `1 2`: `fields`
@@ -128,6 +153,24 @@ pub record AreNoTwoReplicas (config : Config) (fields : List ℕ) : Type 0 where
   pub second_number : second < 2 ^ 64
   pub bad : (config.replicas ≤ first) ⊎ (config.replicas ≤ second) ⊎ (first ≡ second)
 
+-- the two fields are numbers, and there is no such replica as the first of them
+-- for example: `tick 1 5` with one replica
+pub record HasNoReplica (config : Config) (fields : List ℕ) : Type 0 where
+  pub replica : ℕ
+  pub reading : ℕ
+  pub text : fields ≡ decimal replica ++ 32 ∷ decimal reading
+  pub replica_number : replica < 2 ^ 64
+  pub reading_number : reading < 2 ^ 64
+  pub bad : config.replicas ≤ replica
+
+-- what stands behind a tick's word is no replica and no reading
+-- for example: `0 05`: `number`
+abbrev pub IsBadTick : Config → List ℕ → Cause → Type 0
+IsBadTick config fields Fields = spaces fields ≢ 1
+IsBadTick config fields Number = HasNoPair fields
+IsBadTick config fields Range = HasNoReplica config fields
+IsBadTick config fields _ = ⊥
+
 -- what stands behind gossip's word is no two replicas
 abbrev pub IsBadGossip : Config → List ℕ → Cause → Type 0
 IsBadGossip config fields Fields = spaces fields ≢ 1
@@ -146,7 +189,10 @@ IsBadShow config fields _ = ⊥
 -- what stands behind an event's word is not what the word asks for
 abbrev pub IsBadFields : {Value Op : Type 0} → Meaning Value Op → Config → EventWord → List ℕ → Cause → Type 0
 IsBadFields m config Call fields cause = IsBadCall m config fields cause
+IsBadFields m config Resend fields cause = IsBadSending config fields cause
+IsBadFields m config Ack fields cause = IsBadSending config fields cause
 IsBadFields m config Deliver fields cause = IsBadDeliver fields cause
+IsBadFields m config Tick fields cause = IsBadTick config fields cause
 IsBadFields m config Gossip fields cause = IsBadGossip config fields cause
 IsBadFields m config Show fields cause = IsBadShow config fields cause
 

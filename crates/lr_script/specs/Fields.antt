@@ -3,7 +3,7 @@ use Rattle.std.specs.Prelude.{◌≡◌, ◌≢◌, ℕ, ◌+◌, ◌<◌, ◌^�
 use Rattle.std.specs.Borrow.{Bor}
 use Rattle.std.specs.Fmt.{decimal}
 use Rattle.lr_script.specs.declared.fields.EventWord.{EventWord}
-use Rattle.lr_script.specs.declared.fields.EventWord.TheVariants.{Call, Deliver, Gossip, Show}
+use Rattle.lr_script.specs.declared.fields.EventWord.TheVariants.{Call, Resend, Ack, Deliver, Tick, Gossip, Show}
 
 -- how many spaces there are among the bytes
 -- for example: 2 in `0 0 5`
@@ -21,7 +21,10 @@ IsField line field (Some rest) = (line ≡ field ++ 32 ∷ rest.now) × (spaces 
 -- for example: `call`
 abbrev pub word_text : EventWord → List ℕ
 word_text Call = codes "call"
+word_text Resend = codes "resend"
+word_text Ack = codes "ack"
 word_text Deliver = codes "deliver"
+word_text Tick = codes "tick"
 word_text Gossip = codes "gossip"
 word_text Show = codes "show"
 
@@ -33,6 +36,19 @@ four_fields client replica reading op = client ++ 32 ∷ (replica ++ 32 ∷ (rea
 -- what stands behind a call's word is these fields
 pub record IsCallFields (fields client replica reading op : List ℕ) : Type 0 where
   pub text : fields ≡ four_fields client replica reading op
+  pub client_field : spaces client ≡ 0
+  pub replica_field : spaces replica ≡ 0
+  pub reading_field : spaces reading ≡ 0
+
+-- three fields, each behind a space but the first
+-- for example: `0`, `0`, `5`
+abbrev pub three_fields : List ℕ → List ℕ → List ℕ → List ℕ
+three_fields client replica reading = client ++ 32 ∷ (replica ++ 32 ∷ reading)
+
+-- what stands behind a word is these three fields
+-- for example: `0`, `0`, `5` behind `resend`
+pub record IsTriple (fields client replica reading : List ℕ) : Type 0 where
+  pub text : fields ≡ three_fields client replica reading
   pub client_field : spaces client ≡ 0
   pub replica_field : spaces replica ≡ 0
   pub reading_field : spaces reading ≡ 0

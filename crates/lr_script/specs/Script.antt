@@ -7,7 +7,7 @@ use Rattle.lr_base.specs.Kinds.{has_rules}
 use Rattle.lr_base.specs.Limits.{most_script_bytes}
 use Rattle.lr_base.specs.Meaning.{Meaning}
 use Rattle.lr_base.specs.declared.events.Event.{Event}
-use Rattle.lr_base.specs.declared.events.Event.TheVariants.{Call, Deliver, Gossip, Show}
+use Rattle.lr_base.specs.declared.events.Event.TheVariants.{Call, Resend, Ack, Deliver, Tick, Gossip, Show}
 use Rattle.lr_base.specs.declared.names.Config.{Config}
 use Rattle.lr_script.specs.declared.heading.Header.{Header}
 use Rattle.lr_script.specs.Texts.{header_text, event_text, service_number}
@@ -45,7 +45,10 @@ IsNoCalled {Value} {Op} m text = (op : Op) → is_called m op ≡ true → m.tex
 abbrev pub EventFits : {Value Op : Type 0} → Meaning Value Op → Event Op → Type 0
 EventFits m (Call client replica reading op) =
     (client < 2 ^ 64) × (replica < 2 ^ 64) × (reading < 2 ^ 64) × (m.is_op op ≡ true)
+EventFits m (Resend client replica reading) = (client < 2 ^ 64) × (replica < 2 ^ 64) × (reading < 2 ^ 64)
+EventFits m (Ack client replica reading) = (client < 2 ^ 64) × (replica < 2 ^ 64) × (reading < 2 ^ 64)
 EventFits m (Deliver message) = message < 2 ^ 64
+EventFits m (Tick replica reading) = (replica < 2 ^ 64) × (reading < 2 ^ 64)
 EventFits m (Gossip from to) = (from < 2 ^ 64) × (to < 2 ^ 64)
 EventFits m (Show replica) = replica < 2 ^ 64
 

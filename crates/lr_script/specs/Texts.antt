@@ -3,7 +3,7 @@ use Rattle.std.specs.Prelude.{ℕ, List, ◌++◌, codes}
 use Rattle.std.specs.Fmt.{decimal}
 use Rattle.lr_base.specs.Meaning.{Meaning}
 use Rattle.lr_base.specs.declared.events.Event.{Event}
-use Rattle.lr_base.specs.declared.events.Event.TheVariants.{Call, Deliver, Gossip, Show}
+use Rattle.lr_base.specs.declared.events.Event.TheVariants.{Call, Resend, Ack, Deliver, Tick, Gossip, Show}
 use Rattle.lr_base.specs.declared.names.Config.{Config}
 use Rattle.lr_script.specs.declared.heading.Header.{Header}
 use Rattle.lr_script.specs.declared.heading.Name.{Name}
@@ -34,12 +34,21 @@ config_text config =
 abbrev pub header_text : Header → List ℕ
 header_text header = codes "lazyrep 1 " ++ (service_text header.service ++ (codes " " ++ config_text header.config))
 
+-- a client, a replica and a reading, with one space between them
+-- for example: `0 1 5`
+abbrev pub sending_text : ℕ → ℕ → ℕ → List ℕ
+sending_text client replica reading =
+    decimal client ++ (codes " " ++ (decimal replica ++ (codes " " ++ decimal reading)))
+
 -- an event's line: its word, then its fields with one space before each
 -- for example: `call 0 0 5 add x 3`
 abbrev pub event_text : {Value Op : Type 0} → Meaning Value Op → Event Op → List ℕ
 event_text m (Call client replica reading op) =
     codes "call " ++ (decimal client ++ (codes " " ++ (decimal replica
     ++ (codes " " ++ (decimal reading ++ (codes " " ++ m.text op))))))
+event_text m (Resend client replica reading) = codes "resend " ++ sending_text client replica reading
+event_text m (Ack client replica reading) = codes "ack " ++ sending_text client replica reading
 event_text m (Deliver message) = codes "deliver " ++ decimal message
+event_text m (Tick replica reading) = codes "tick " ++ (decimal replica ++ (codes " " ++ decimal reading))
 event_text m (Gossip from to) = codes "gossip " ++ (decimal from ++ (codes " " ++ decimal to))
 event_text m (Show replica) = codes "show " ++ decimal replica

@@ -2,11 +2,12 @@
 ghost use Rattle.std.specs.Prelude.{◌≡◌, ◌≢◌, true, ◌++◌, ◌<◌, codes, IfOk, IfErr, OnOk, IfSome, IsNone};
 ghost use Rattle.std.specs.Fmt.{decimal};
 ghost use Rattle.lr_base.specs.declared.names.Config.{Config};
-ghost use Rattle.lr_script.specs.Fields.{spaces, IsCallFields, IsPair};
-ghost use Rattle.lr_script.specs.Faults.{IsBecause, IsBadEvent, IsBadCall, IsBadDeliver, IsBadGossip, IsBadShow};
+ghost use Rattle.lr_script.specs.Fields.{spaces, IsCallFields, IsPair, IsTriple};
+ghost use Rattle.lr_script.specs.Faults.{IsBecause, IsBadEvent, AreNoSending};
+ghost use Rattle.lr_script.specs.Faults.{IsBadCall, IsBadSending, IsBadDeliver, IsBadTick, IsBadGossip, IsBadShow};
 ghost use Rattle.lr_script.specs.Script.{Fits, IsNoCalled, is_called};
 ghost use Rattle.lr_script.specs.declared.refusals.Cause.{Cause};
-ghost use Rattle.lr_script.specs.Texts.{event_text};
+ghost use Rattle.lr_script.specs.Texts.{event_text, sending_text};
 
 use crate::Cause;
 use crate::fields::{EventWord, is_one_field, split_field, word_of};
@@ -29,6 +30,13 @@ struct CallFields<'a> {
     op: &'a [u8],
 }
 
+// The front end that sends, the replica that it sends to, and the clock's reading.
+struct Sending {
+    client: u32,
+    replica: u8,
+    reading: u64,
+}
+
 // The event that a line is.
 pub fn read_event<S: Service>(
     alloc: Global,
@@ -48,7 +56,10 @@ pub fn read_event<S: Service>(
     };
     match word {
         EventWord::Call => read_call::<S>(alloc, config, fields),
+        EventWord::Resend => read_resend::<S>(config, fields),
+        EventWord::Ack => read_ack::<S>(config, fields),
         EventWord::Deliver => read_deliver::<S>(fields),
+        EventWord::Tick => read_tick::<S>(config, fields),
         EventWord::Gossip => read_gossip::<S>(config, fields),
         EventWord::Show => read_show::<S>(config, fields),
     }
@@ -88,6 +99,33 @@ fn read_call<S: Service>(
         reading,
         op,
     } = fields;
+    let Sending {
+        client,
+        replica,
+        reading,
+    } = sending_of(config, client, replica, reading)?;
+    let op = called_op::<S>(alloc, op)?;
+    Ok(Event::Call {
+        client,
+        replica,
+        reading,
+        op,
+    })
+}
+
+// The client, the replica and the reading that are written so.
+fn sending_of(
+    config: Config,
+    client: &[u8],
+    replica: &[u8],
+    reading: &[u8],
+) -> Result<Sending, EventFault>
+    ensures known { IfOk result (λ it. (it.client < config.clients) × (it.replica < config.replicas)) }
+    ensures client { IfOk result (λ it. client.now ≡ decimal it.client) }
+    ensures replica { IfOk result (λ it. replica.now ≡ decimal it.replica) }
+    ensures reading { IfOk result (λ it. reading.now ≡ decimal it.reading) }
+    ensures err { IfErr result (IsBecause (AreNoSending config client.now replica.now reading.now)) }
+{
     let Some(client) = read_number(client) else {
         return Err(EventFault::Bad(Cause::Number));
     };
@@ -103,12 +141,10 @@ fn read_call<S: Service>(
     if config.replicas as u64 <= replica {
         return Err(EventFault::Bad(Cause::Range));
     }
-    let op = called_op::<S>(alloc, op)?;
-    Ok(Event::Call {
+    Ok(Sending {
         client: client as u32,
         replica: replica as u8,
         reading,
-        op,
     })
 }
 
@@ -126,6 +162,62 @@ fn called_op<S: Service>(alloc: Global, text: &[u8]) -> Result<S::Op, EventFault
         Err(OpFault::NotAnOp) => Err(EventFault::Bad(Cause::Op)),
         Err(OpFault::NoMemory) => Err(EventFault::NoMemory),
     }
+}
+
+// The three fields that these are, if they are three.
+fn triple_of(fields: &[u8]) -> Option<(&[u8], &[u8], &[u8])>
+    ensures some { IfSome result (λ it. IsTriple fields.now it.0.now it.1.now it.2.now) }
+    ensures none { IsNone result → spaces fields.now ≢ 2 }
+{
+    let (client, rest) = split_field(fields);
+    let (replica, reading) = pair_of(rest?)?;
+    Some((client, replica, reading))
+}
+
+// The front end, the replica and the reading that stand behind the word of a resend or an acknowledgement.
+fn read_sending(config: Config, fields: &[u8]) -> Result<Sending, EventFault>
+    ensures known { IfOk result (λ it. (it.client < config.clients) × (it.replica < config.replicas)) }
+    ensures text { IfOk result (λ it. fields.now ≡ sending_text it.client it.replica it.reading) }
+    ensures err { IfErr result (IsBecause (IsBadSending config fields.now)) }
+{
+    let Some((client, replica, reading)) = triple_of(fields) else {
+        return Err(EventFault::Bad(Cause::Fields));
+    };
+    sending_of(config, client, replica, reading)
+}
+
+fn read_resend<S: Service>(config: Config, fields: &[u8]) -> Result<Event<S::Op>, EventFault>
+    ensures fits { IfOk result (Fits S.meaning config) }
+    ensures text { IfOk result (λ event. codes "resend " ++ fields.now ≡ event_text S.meaning event) }
+    ensures err { IfErr result (IsBecause (IsBadSending config fields.now)) }
+{
+    let Sending {
+        client,
+        replica,
+        reading,
+    } = read_sending(config, fields)?;
+    Ok(Event::Resend {
+        client,
+        replica,
+        reading,
+    })
+}
+
+fn read_ack<S: Service>(config: Config, fields: &[u8]) -> Result<Event<S::Op>, EventFault>
+    ensures fits { IfOk result (Fits S.meaning config) }
+    ensures text { IfOk result (λ event. codes "ack " ++ fields.now ≡ event_text S.meaning event) }
+    ensures err { IfErr result (IsBecause (IsBadSending config fields.now)) }
+{
+    let Sending {
+        client,
+        replica,
+        reading,
+    } = read_sending(config, fields)?;
+    Ok(Event::Ack {
+        client,
+        replica,
+        reading,
+    })
 }
 
 fn read_deliver<S: Service>(fields: &[u8]) -> Result<Event<S::Op>, EventFault>
@@ -153,6 +245,29 @@ fn pair_of(fields: &[u8]) -> Option<(&[u8], &[u8])>
         return None;
     }
     Some((first, second))
+}
+
+fn read_tick<S: Service>(config: Config, fields: &[u8]) -> Result<Event<S::Op>, EventFault>
+    ensures fits { IfOk result (Fits S.meaning config) }
+    ensures text { IfOk result (λ event. codes "tick " ++ fields.now ≡ event_text S.meaning event) }
+    ensures err { IfErr result (IsBecause (IsBadTick config fields.now)) }
+{
+    let Some((place, reading)) = pair_of(fields) else {
+        return Err(EventFault::Bad(Cause::Fields));
+    };
+    let Some(place) = read_number(place) else {
+        return Err(EventFault::Bad(Cause::Number));
+    };
+    let Some(reading) = read_number(reading) else {
+        return Err(EventFault::Bad(Cause::Number));
+    };
+    if config.replicas as u64 <= place {
+        return Err(EventFault::Bad(Cause::Range));
+    }
+    Ok(Event::Tick {
+        replica: place as u8,
+        reading,
+    })
 }
 
 fn read_gossip<S: Service>(config: Config, fields: &[u8]) -> Result<Event<S::Op>, EventFault>
@@ -214,19 +329,26 @@ pub fn print_event<S: Service>(event: &Event<S::Op>, out: &mut Text) -> Result<(
             reading,
             op,
         } => {
-            put_call_head(*client, *replica, *reading, out)?;
+            put_sending(b"call ", *client, *replica, *reading, out)?;
+            out.extend(b" ")?;
             S::print_op(op, out)
         }
+        Event::Resend {
+            client,
+            replica,
+            reading,
+        } => put_sending(b"resend ", *client, *replica, *reading, out),
+        Event::Ack {
+            client,
+            replica,
+            reading,
+        } => put_sending(b"ack ", *client, *replica, *reading, out),
         Event::Deliver { message } => {
             out.extend(b"deliver ")?;
             put_number(*message, out)
         }
-        Event::Gossip { from, to } => {
-            out.extend(b"gossip ")?;
-            put_number(*from as u64, out)?;
-            out.extend(b" ")?;
-            put_number(*to as u64, out)
-        }
+        Event::Tick { replica, reading } => put_pair(b"tick ", *replica as u64, *reading, out),
+        Event::Gossip { from, to } => put_pair(b"gossip ", *from as u64, *to as u64, out),
         Event::Show { replica } => {
             out.extend(b"show ")?;
             put_number(*replica as u64, out)
@@ -234,16 +356,30 @@ pub fn print_event<S: Service>(event: &Event<S::Op>, out: &mut Text) -> Result<(
     }
 }
 
-// A call's line up to the space before its operation.
-fn put_call_head(client: u32, replica: u8, reading: u64, out: &mut Text) -> Result<(), NoMemory>
-    ensures { OnOk result (out.new ≡ out.old ++ (codes "call " ++ (decimal client
-        ++ (codes " " ++ (decimal replica ++ (codes " " ++ (decimal reading ++ codes " "))))))) }
+// A word, and behind it two numbers with one space between them.
+fn put_pair(word: &[u8], first: u64, second: u64, out: &mut Text) -> Result<(), NoMemory>
+    ensures { OnOk result (out.new ≡ out.old ++ (word.now ++ (decimal first ++ (codes " " ++ decimal second)))) }
 {
-    out.extend(b"call ")?;
+    out.extend(word)?;
+    put_number(first, out)?;
+    out.extend(b" ")?;
+    put_number(second, out)
+}
+
+// A word, and behind it a client, a replica and a reading, with one space between them.
+fn put_sending(
+    word: &[u8],
+    client: u32,
+    replica: u8,
+    reading: u64,
+    out: &mut Text,
+) -> Result<(), NoMemory>
+    ensures { OnOk result (out.new ≡ out.old ++ (word.now ++ sending_text client replica reading)) }
+{
+    out.extend(word)?;
     put_number(client as u64, out)?;
     out.extend(b" ")?;
     put_number(replica as u64, out)?;
     out.extend(b" ")?;
-    put_number(reading, out)?;
-    out.extend(b" ")
+    put_number(reading, out)
 }

@@ -7,7 +7,10 @@ ghost use Rattle.lr_script.specs.declared.fields.EventWord.{EventWord};
 #[derive(Clone, Copy)]
 pub enum EventWord {
     Call,
+    Resend,
+    Ack,
     Deliver,
+    Tick,
     Gossip,
     Show,
 }
@@ -47,8 +50,17 @@ pub fn word_of(field: &[u8]) -> Option<EventWord>
     if field == b"call".as_slice() {
         return Some(EventWord::Call);
     }
+    if field == b"resend".as_slice() {
+        return Some(EventWord::Resend);
+    }
+    if field == b"ack".as_slice() {
+        return Some(EventWord::Ack);
+    }
     if field == b"deliver".as_slice() {
         return Some(EventWord::Deliver);
+    }
+    if field == b"tick".as_slice() {
+        return Some(EventWord::Tick);
     }
     if field == b"gossip".as_slice() {
         return Some(EventWord::Gossip);

@@ -8,7 +8,7 @@ use Rattle.std.specs.Io.KnownBytes.{Appends}
 use Rattle.std.proofs.KnownBytes.{Appends-nil, Appends-trans}
 use Rattle.lr_base.specs.Meaning.{Meaning}
 use Rattle.lr_base.specs.declared.events.Event.{Event}
-use Rattle.lr_base.specs.declared.events.Event.TheVariants.{Call, Deliver, Gossip, Show}
+use Rattle.lr_base.specs.declared.events.Event.TheVariants.{Call, Resend, Ack, Deliver, Tick, Gossip, Show}
 use Rattle.lr_base.specs.declared.events.Step.{Step}
 use Rattle.lr_base.specs.declared.names.Config.{Config}
 use Rattle.lr_base.specs.Events.{IsEventOf}
@@ -121,7 +121,10 @@ module _ {Value Op : Type 0} (m : Meaning Value Op) (header : Header) where
   -- an event that fits is one of the run's
   pub event-of : (event : Event Op) → Fits m header.config event → IsEventOf m header.config event
   event-of (Call client replica reading op) fits = (fits.0, fits.1.3)
+  event-of (Resend client replica reading) fits = (fits.0, tt)
+  event-of (Ack client replica reading) fits = (fits.0, tt)
   event-of (Deliver message) fits = (fits.0, tt)
+  event-of (Tick replica reading) fits = (fits.0, tt)
   event-of (Gossip from to) fits = (fits.0, tt)
   event-of (Show replica) fits = (fits.0, tt)
 

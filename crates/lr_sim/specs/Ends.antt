@@ -17,7 +17,7 @@ use Rattle.lr_sim.specs.Services.{HoldsOf}
 use Rattle.lr_sim.specs.declared.command.SimEnd.{SimEnd}
 use Rattle.lr_sim.specs.declared.command.SimEnd.TheVariants.{Ok as Done, Script, ReadFault, WriteFault, NoMemory}
 
--- these bytes were read, with no fault: the input to its end, or the first one byte more than a script may have
+-- these bytes were read, with no fault: the input to its end, or its first bytes, one more than a script may have
 abbrev pub HasReadInput : SourceChange → List ℕ → Type 0
 HasReadInput source bytes = HasRead (most_script_bytes + 1) source bytes
 
