@@ -4,10 +4,10 @@ use Rattle.std.specs.Prelude.{nat_lt, Option, Some, None, if◌then◌else◌}
 use Rattle.lr_base.specs.Kinds.{has_rules, is_query}
 use Rattle.lr_base.specs.Meaning.{Meaning}
 use Rattle.lr_base.specs.declared.events.Event.{Event}
-use Rattle.lr_base.specs.declared.events.Event.TheVariants.{Call, Deliver, Gossip, Show}
+use Rattle.lr_base.specs.declared.events.Event.TheVariants.{Call, Resend, Ack as AckEvent, Deliver, Tick, Gossip, Show}
 use Rattle.lr_base.specs.declared.events.Outcome.{Outcome}
-use Rattle.lr_base.specs.declared.events.Outcome.TheVariants.{Send, Accept, Hold, Take, Got, Stale}
-use Rattle.lr_base.specs.declared.events.Outcome.TheVariants.{NoMessage, Refuse, State}
+use Rattle.lr_base.specs.declared.events.Outcome.TheVariants.{Send, Accept, Note, Hold, Take, Got, Stale}
+use Rattle.lr_base.specs.declared.events.Outcome.TheVariants.{ClockAt, NoMessage, Refuse, State}
 use Rattle.lr_base.specs.declared.events.Sent.TheVariants.{Update, Query, Answer}
 use Rattle.lr_base.specs.declared.events.Step.{Step}
 use Rattle.lr_base.specs.declared.names.Actor.{Actor}
@@ -16,10 +16,11 @@ use Rattle.lr_base.specs.declared.names.Config.{Config}
 use Rattle.lr_graph.specs.After.{Handling, after, event_read, handling, line_read, lines_read, next_call}
 use Rattle.lr_graph.specs.After.{step_ended, stepping}
 use Rattle.lr_graph.specs.Graph.{Acceptance, Carried, Facts, LabelledCall, SentMessage}
-use Rattle.lr_graph.specs.Graph.{UpdateCopy, QueryCopy, DoneReply, AnswerReply, GossipOf, Blank}
+use Rattle.lr_graph.specs.Graph.{UpdateCopy, QueryCopy, AckCopy, DoneReply, AnswerReply, GossipOf, Blank}
 use Rattle.lr_graph.specs.Graph.{first_facts, has_call, is_within, ready, value}
 use Rattle.lr_graph.specs.Legal.{IsLegal, LegalFrom, answer_line, answers, answers_at, call_lines, delivery_lines}
-use Rattle.lr_graph.specs.Legal.{copy_lines, is_event_in, message_lines, next_number, outcomes_of, own_lines, query_lines}
+use Rattle.lr_graph.specs.Legal.{copy_line, copy_lines, is_event_in, message_lines, next_number, outcomes_of}
+use Rattle.lr_graph.specs.Legal.{own_lines, query_lines, resend_lines}
 use Rattle.lr_graph.specs.Sets.{SpotSet}
 
 -- the operations are the same, with one kind each, and every set of acceptances has one answer
@@ -68,14 +69,16 @@ module _ {V W Op : Type 0} {m : Meaning V Op} {n : Meaning W Op} (h : Alike m n)
   same-message : (config : Config) (w : Facts Op) (to : Actor) (what : Carried Op)
       → message_lines m config w to what ≡ message_lines n config w to what
   same-message config w (Replica i) (UpdateCopy call time) =
-      ap (λ kind. copy_lines config w i call (has_rules kind)) (h.kind call.op)
+      ap (λ kind. copy_lines config w i call time (has_rules kind)) (h.kind call.op)
   same-message config w (Replica i) (QueryCopy call) = same-query w i call _ _
+  same-message config w (Replica i) (AckCopy cid time) = refl
   same-message config w (Replica i) (DoneReply cid names) = refl
   same-message config w (Replica i) (AnswerReply cid names) = refl
   same-message config w (Replica i) (GossipOf names) = refl
   same-message config w (Replica i) Blank = refl
   same-message config w (Client client) (UpdateCopy call time) = refl
   same-message config w (Client client) (QueryCopy call) = refl
+  same-message config w (Client client) (AckCopy cid time) = refl
   same-message config w (Client client) (DoneReply cid names) = refl
   same-message config w (Client client) (AnswerReply cid names) = refl
   same-message config w (Client client) (GossipOf names) = refl
@@ -86,19 +89,31 @@ module _ {V W Op : Type 0} {m : Meaning V Op} {n : Meaning W Op} (h : Alike m n)
   same-delivery config w number None = refl
   same-delivery config w number (Some x) = same-message config w x.to x.what
 
+  same-copy : (w : Facts Op) (client replica clock : ℕ) (call : LabelledCall Op)
+      → copy_line m w client replica clock call ≡ copy_line n w client replica clock call
+  same-copy w client replica clock call =
+      ap (λ kind. Send (next_number w) (Client client) (Replica replica)
+      (if is_query kind then Query call.cid else Update call.cid clock)) (h.kind call.op)
+
   same-call : (w : Facts Op) (client replica clock : ℕ) (op : Op) (known : Option (LabelledCall Op)) (worn : Bool)
       → call_lines m w client replica clock op known worn ≡ call_lines n w client replica clock op known worn
   same-call w client replica clock op (Some call) worn = refl
   same-call w client replica clock op None true = refl
   same-call w client replica clock op None false =
-      ap (λ kind. Send (next_number w) (Client client) (Replica replica)
-      (if is_query kind then Query (next_call client (w.front client) op).cid
-      else Update (next_call client (w.front client) op).cid clock) ∷ []) (h.kind op)
+      ap (λ line. line ∷ []) (same-copy w client replica clock (next_call client (w.front client) op))
+
+  same-resend : (w : Facts Op) (client replica clock : ℕ) (known : Option (LabelledCall Op))
+      → resend_lines m w client replica clock known ≡ resend_lines n w client replica clock known
+  same-resend w client replica clock None = refl
+  same-resend w client replica clock (Some call) = ap (λ line. line ∷ []) (same-copy w client replica clock call)
 
   same-own : (config : Config) (w : Facts Op) (event : Event Op)
       → own_lines m config w event ≡ own_lines n config w event
   same-own config w (Call client replica reading op) = same-call w client replica _ op _ _
+  same-own config w (Resend client replica reading) = same-resend w client replica _ _
+  same-own config w (AckEvent client replica reading) = refl
   same-own config w (Deliver message) = same-delivery config w message _
+  same-own config w (Tick replica reading) = refl
   same-own config w (Gossip from to) = refl
   same-own config w (Show replica) = refl
 
@@ -124,10 +139,12 @@ module _ {V W Op : Type 0} {m : Meaning V Op} {n : Meaning W Op} (h : Alike m n)
       → line_read m config x w line ≡ line_read n config x w line
   same-line config x w (Send number from to what) = refl
   same-line config x w (Accept spot cid) = refl
+  same-line config x w (Note spot cid) = refl
   same-line config x w (Hold cid) = refl
   same-line config x w (Take count) = refl
   same-line config x w (Got cid) = refl
   same-line config x w (Stale cid) = refl
+  same-line config x w (ClockAt reading) = refl
   same-line config x w (NoMessage message) = refl
   same-line config x w (Refuse why) = refl
   same-line config x w (State line) = refl
@@ -163,7 +180,10 @@ module _ {V W Op : Type 0} {m : Meaning V Op} {n : Meaning W Op} (h : Alike m n)
   same-event : (config : Config) (event : Event Op) → is_event_in m config event ≡ is_event_in n config event
   same-event config (Call client replica reading op) =
       ap (λ is. nat_lt client config.clients && (nat_lt replica config.replicas && is)) (h.is_op op)
+  same-event config (Resend client replica reading) = refl
+  same-event config (AckEvent client replica reading) = refl
   same-event config (Deliver message) = refl
+  same-event config (Tick replica reading) = refl
   same-event config (Gossip from to) = refl
   same-event config (Show replica) = refl
 

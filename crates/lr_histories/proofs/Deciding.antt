@@ -8,12 +8,12 @@ use Rattle.std.proofs.lemmas.Cmp.{eq_by_cmp_equiv, nat_list_cmp_total}
 use Rattle.lr_base.specs.Meaning.{Meaning}
 use Rattle.lr_base.specs.declared.events.Event.{Event}
 use Rattle.lr_base.specs.declared.events.Outcome.{Outcome}
-use Rattle.lr_base.specs.declared.events.Outcome.TheVariants.{Send, Accept, Hold, Take, Got, Stale}
-use Rattle.lr_base.specs.declared.events.Outcome.TheVariants.{NoMessage, Refuse, State}
+use Rattle.lr_base.specs.declared.events.Outcome.TheVariants.{Send, Accept, Note, Hold, Take, Got, Stale}
+use Rattle.lr_base.specs.declared.events.Outcome.TheVariants.{ClockAt, NoMessage, Refuse, State}
 use Rattle.lr_base.specs.declared.events.Refusal.{Refusal}
-use Rattle.lr_base.specs.declared.events.Refusal.TheVariants.{Late, Again, Unfinished}
+use Rattle.lr_base.specs.declared.events.Refusal.TheVariants.{Late, Again, Noted, Unfinished}
 use Rattle.lr_base.specs.declared.events.Sent.{Sent}
-use Rattle.lr_base.specs.declared.events.Sent.TheVariants.{Update, Query, Done, Answer, Gossip}
+use Rattle.lr_base.specs.declared.events.Sent.TheVariants.{Update, Query, Ack, Done, Answer, Gossip}
 use Rattle.lr_base.specs.declared.events.Step.{Step}
 use Rattle.lr_base.specs.declared.names.Actor.{Actor}
 use Rattle.lr_base.specs.declared.names.Actor.TheVariants.{Client, Replica}
@@ -69,6 +69,7 @@ of_actor (Replica replica) = replica
 abbrev of_sent : Sent → List ℕ
 of_sent (Update cid time) = of_cid cid ++ time ∷ []
 of_sent (Query cid) = of_cid cid
+of_sent (Ack cid time) = of_cid cid ++ time ∷ []
 of_sent (Done cid spot) = of_cid cid ++ of_spot spot
 of_sent (Answer cid text) = of_cid cid ++ text
 of_sent Gossip = []
@@ -76,20 +77,23 @@ of_sent Gossip = []
 abbrev of_refusal : Refusal → List ℕ
 of_refusal (Late time clock) = time ∷ clock ∷ []
 of_refusal (Again spot) = of_spot spot
+of_refusal (Noted spot) = of_spot spot
 of_refusal (Unfinished cid) = of_cid cid
 of_refusal _ = []
 
 abbrev of_outcome : Outcome → List ℕ
 of_outcome (Send number from to what) = number ∷ of_actor from ∷ of_actor to ∷ of_sent what
 of_outcome (Accept spot cid) = of_spot spot ++ of_cid cid
+of_outcome (Note spot cid) = of_spot spot ++ of_cid cid
 of_outcome (Hold cid) = of_cid cid
 of_outcome (Take count) = count ∷ []
 of_outcome (Got cid) = of_cid cid
 of_outcome (Stale cid) = of_cid cid
+of_outcome (ClockAt reading) = reading ∷ []
 of_outcome (NoMessage message) = message ∷ []
 of_outcome (Refuse why) = of_refusal why
-of_outcome (State line) = line.received ++ flat_map of_spot line.log ++ flat_map of_cid line.calls
-    ++ flat_map of_cid line.held
+of_outcome (State line) = line.clock ∷ line.received ++ flat_map of_spot line.log ++ flat_map of_spot line.acks
+    ++ flat_map of_cid line.calls ++ flat_map of_cid line.held
 
 abbrev same_numbers : List Outcome → List Outcome → Bool
 same_numbers xs ys = eq_by_cmp (slice_cmp nat_cmp) (flat_map of_outcome xs) (flat_map of_outcome ys)
