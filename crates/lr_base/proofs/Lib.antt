@@ -1,2 +1,3 @@
+mod Bounded
 mod NumberLemmas
 mod Order

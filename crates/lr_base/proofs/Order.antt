@@ -1,10 +1,10 @@
 -- The words of stamps, part by part, and at lists of one length, element by element.
-use Rattle.std.proofs.Common.{◌≡◌, ◌<◌, ◌≤◌, ℕ, zero, suc, max, Bool, true, false, ◌==◌, nat_le, List, [], ◌∷◌, length, get_or, set, refl, ap, arith, eqb-true, leb-true, le-leb}
+use Rattle.std.proofs.Common.{◌≡◌, ◌<◌, ◌≤◌, ℕ, zero, suc, max, min, Bool, true, false, ◌==◌, nat_le, List, [], ◌∷◌, length, get_or, set, refl, ap, arith, eqb-true, leb-true, le-leb}
 use Rattle.std.specs.List.{refill}
 use Rattle.std.proofs.lemmas.Bool.{and_parts}
 use Rattle.std.proofs.lemmas.Grind.{common_steps}
 use Rattle.std.proofs.Math.ListN.{length-set}
-use Rattle.lr_base.specs.Stamps.{part, join, stamp_le, set_part}
+use Rattle.lr_base.specs.Stamps.{part, join, meet, stamp_le, set_part}
 
 -- a part is the element at its place
 pub part-element : (a : List ℕ) (place : ℕ) → part a place ≡ get_or a place 0
@@ -28,6 +28,18 @@ join-elements (x ∷ a) (y ∷ b) [] same long greater = absurd (omega arith)
 join-elements (x ∷ a) (y ∷ b) (z ∷ c) same long greater =
     let head : z ≡ max x y = greater 0 (omega arith) in
     let rest : c ≡ join a b = join-elements a b c (omega arith) (omega arith) (λ k within. greater (suc k) (omega arith)) in
+    cc
+
+-- a stamp with the lesser of each pair of elements is the meet
+pub meet-elements : (a b c : List ℕ) → length a ≡ length b → length c ≡ length a → ((k : ℕ) → k < length a → get_or c k 0 ≡ min (get_or a k 0) (get_or b k 0)) → c ≡ meet a b
+meet-elements [] [] [] same long lesser = refl
+meet-elements [] [] (z ∷ c) same long lesser = absurd (omega arith)
+meet-elements [] (y ∷ b) c same long lesser = absurd (omega arith)
+meet-elements (x ∷ a) [] c same long lesser = absurd (omega arith)
+meet-elements (x ∷ a) (y ∷ b) [] same long lesser = absurd (omega arith)
+meet-elements (x ∷ a) (y ∷ b) (z ∷ c) same long lesser =
+    let head : z ≡ min x y = lesser 0 (omega arith) in
+    let rest : c ≡ meet a b = meet-elements a b c (omega arith) (omega arith) (λ k within. lesser (suc k) (omega arith)) in
     cc
 
 -- the order holds where each element is at most its counterpart

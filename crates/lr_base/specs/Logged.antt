@@ -1,5 +1,5 @@
 -- Shapes of logged items and of executed calls.
-use Rattle.std.specs.Prelude.{◌≡◌, ◌<◌, ℕ, false, length, List}
+use Rattle.std.specs.Prelude.{◌≡◌, ◌<◌, ◌≤◌, ℕ, false, length, List}
 use Rattle.std.specs.List.{slice_get}
 use Rattle.std.specs.Option.{ForSome}
 use Rattle.lr_base.specs.declared.names.Cid.{Cid}
@@ -8,26 +8,30 @@ use Rattle.lr_base.specs.declared.messages.LogAck.{LogAck}
 use Rattle.lr_base.specs.declared.messages.LogUpdate.{LogUpdate}
 use Rattle.lr_base.specs.declared.lr_service.Kind.{Kind}
 use Rattle.lr_base.specs.Kinds.{IsUpdate}
+use Rattle.lr_base.specs.Limits.{last_number}
 use Rattle.lr_base.specs.Rules.{is_new, known_of}
 
--- an update whose stamp has these many parts, one of them for its place
--- for example: 2 parts, place 0
+-- an update with at most the last number, whose stamp has these many parts, one of them for its place
+-- for example: 2 parts, and the update at `0:1`
 pub record Fits {Op : Type 0} (parts : ℕ) (u : LogUpdate Op) : Type 0 where
   pub prev : length u.prev ≡ parts
   pub place : u.spot.place < parts
+  pub number : u.spot.number ≤ last_number
 
--- a logged update that can be applied: its stamp has these many parts, one of them for its place
+-- a logged update that can be applied: its number is at most the last one, and its stamp has these many parts, one of
+-- them for its place
 -- for example: `add x 3` at `0:1`
 pub record IsLogged {Op : Type 0} (kind_of : Op → Kind) (parts : ℕ) (u : LogUpdate Op) : Type 0 where
   pub prev : length u.prev ≡ parts
   pub place : u.spot.place < parts
+  pub number : u.spot.number ≤ last_number
   pub update : IsUpdate (kind_of u.op)
 
 -- each update of the list can be applied
 abbrev pub AllLogged : {Op : Type 0} → (Op → Kind) → ℕ → List (LogUpdate Op) → Type 0
 AllLogged kind_of parts updates = (k : ℕ) → ForSome (slice_get updates k) (IsLogged kind_of parts)
 
--- each update of the list has a stamp of these many parts
+-- each update of the list has at most the last number, and a stamp of these many parts
 abbrev pub AllFit : {Op : Type 0} → ℕ → List (LogUpdate Op) → Type 0
 AllFit parts updates = (k : ℕ) → ForSome (slice_get updates k) (Fits parts)
 

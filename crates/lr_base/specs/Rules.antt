@@ -1,7 +1,8 @@
 -- The causal rules of a replica, as functions of its state.
 -- What one replica does with causal operations, as functions of its state.
 use Rattle.std.specs.Prelude.{ℕ, ◌+◌, max, find, filter, get_or, length, set, not, zero, suc, replicate, Bool}
-use Rattle.std.specs.Prelude.{◌==◌, nat_lt, if◌then◌else◌, List, [], ◌∷◌, ◌++◌, Option, Some, None, is_some}
+use Rattle.std.specs.Prelude.{◌&&◌, nat_lt, if◌then◌else◌, List, [], ◌∷◌, ◌++◌, Option, Some, None, is_some}
+use Rattle.std.specs.List.{list_all, list_any}
 use Rattle.std.specs.Option.{option_map, option_map_or}
 use Rattle.lr_base.specs.Ascending.{is_before, same_cid}
 use Rattle.lr_base.specs.Bytes.{Bytes}
@@ -104,13 +105,17 @@ update_of_call me state call = record {
   op = call.op;
 }
 
+-- a replica has received so many items of each place, which its own row of the table says too
+-- for example: `[3, 0]` in place of `[2, 0]`
+abbrev pub received_now : {Value Op : Type 0} → ℕ → Stamp → CausalState Value Op → CausalState Value Op
+received_now me rep_ts state = record state { rep_ts = rep_ts; table = set state.table me rep_ts }
+
 -- accepting a call: its update is logged, and its number is the last one taken here
 -- for example: `rep_ts` from `[2, 0]` to `[3, 0]`
 abbrev pub accepted : {Value Op : Type 0} → ℕ → CausalState Value Op → Call Op → CausalState Value Op
 accepted me state call =
     let u = update_of_call me state call in
-    record state {
-      rep_ts = set_part state.rep_ts me u.spot.number;
+    record (received_now me (set_part state.rep_ts me u.spot.number) state) {
       updates = insert_update u state.updates;
       top = u.spot.number;
     }
@@ -133,17 +138,12 @@ ack_of me state cid time = record {
 abbrev pub noted : {Value Op : Type 0} → ℕ → CausalState Value Op → Cid → ℕ → CausalState Value Op
 noted me state cid time =
     let ack = ack_of me state cid time in
-    record state { rep_ts = set_part state.rep_ts me ack.spot.number; acks = insert_ack ack state.acks }
+    record (received_now me (set_part state.rep_ts me ack.spot.number) state) { acks = insert_ack ack state.acks }
 
 -- a replica reads its clock, which never goes back
 -- for example: clock 5 and the reading 3 give 5
 abbrev pub ticked : {Value Op : Type 0} → ℕ → CausalState Value Op → CausalState Value Op
 ticked reading state = record state { clock = max state.clock reading }
-
--- what a replica tells another: how many items it received of each place, and its whole log
--- for example: `[1, 0, 0]`, and the update at `0:1`
-abbrev pub gossip_of : {Value Op : Type 0} → CausalState Value Op → Gossip Op
-gossip_of state = record { rep_ts = state.rep_ts; updates = state.updates; acks = state.acks }
 
 -- whether an item at this spot is new where so many items were received of each place
 -- for example: `0:2` at `[1, 0, 0]`, not `0:1`
@@ -159,6 +159,14 @@ new_updates rep_ts updates = filter (λ u. is_new rep_ts u.spot) updates
 abbrev pub new_acks : Stamp → List LogAck → List LogAck
 new_acks rep_ts acks = filter (λ a. is_new rep_ts a.spot) acks
 
+-- what a replica tells another: how many items it received of each place, and of its log what is new for that one, by
+-- what it was told
+-- for example: `[1, 0, 0]`, and the update at `0:1`, unless replica 1 told that it has it
+abbrev pub gossip_of : {Value Op : Type 0} → ℕ → CausalState Value Op → Gossip Op
+gossip_of to state =
+    let theirs = get_or state.table to [] in
+    record { rep_ts = state.rep_ts; updates = new_updates theirs state.updates; acks = new_acks theirs state.acks }
+
 -- the list with these updates too, in the order of spots
 -- for example: `0:1` goes before `1:1`
 abbrev pub insert_updates : {Op : Type 0} → List (LogUpdate Op) → List (LogUpdate Op) → List (LogUpdate Op)
@@ -168,16 +176,16 @@ insert_updates more updates = insert_all_by (λ a b. is_before a.spot b.spot) mo
 abbrev pub insert_acks : List LogAck → List LogAck → List LogAck
 insert_acks more acks = insert_all_by (λ a b. is_before a.spot b.spot) more acks
 
--- taking gossip of this replica: what is new is logged, and its stamp is joined to the own one and to the one kept of
--- it
+-- taking gossip of a replica: what is new is logged, and its stamp is joined to the own one and to the one kept of its
+-- sender
 -- for example: `[1, 0, 0]` at `[0, 2, 0]` gives `[1, 2, 0]`
-abbrev pub gossip_taken : {Value Op : Type 0} → ℕ → CausalState Value Op → Gossip Op → CausalState Value Op
-gossip_taken from state gossip = record state {
-  rep_ts = join state.rep_ts gossip.rep_ts;
-  updates = insert_updates (new_updates state.rep_ts gossip.updates) state.updates;
-  acks = insert_acks (new_acks state.rep_ts gossip.acks) state.acks;
-  table = set state.table from (join (get_or state.table from []) gossip.rep_ts);
-}
+abbrev pub gossip_taken : {Value Op : Type 0} → ℕ → ℕ → CausalState Value Op → Gossip Op → CausalState Value Op
+gossip_taken me from state gossip =
+    let told = set state.table from (join (get_or state.table from []) gossip.rep_ts) in
+    record (received_now me (join state.rep_ts gossip.rep_ts) (record state { table = told })) {
+      updates = insert_updates (new_updates state.rep_ts gossip.updates) state.updates;
+      acks = insert_acks (new_acks state.rep_ts gossip.acks) state.acks;
+    }
 
 -- how many items of gossip are new
 -- for example: 1
@@ -244,10 +252,45 @@ applied m state =
     let p = apply_ready m (length todo) todo (progress_of state) in
     record state { value = p.value; val_ts = p.val_ts; calls = p.calls }
 
--- pruning: a lone replica keeps no update, since all know it; with several nothing leaves
--- for example: the log is empty after each step
+-- whether each replica has the item at this spot, by what it told: it is new for none
+-- for example: `0:1` where the rows are `[1, 0, 0]` and `[2, 0, 0]`, not `0:2`
+abbrev pub known_in : List Stamp → Spot → Bool
+known_in table spot = list_all (λ row. not (is_new row spot)) table
+
+-- whether an update of this call is logged
+abbrev pub logs_update : {Op : Type 0} → List (LogUpdate Op) → Cid → Bool
+logs_update updates cid = list_any (λ u. same_cid u.cid cid) updates
+
+-- whether an acknowledgement of this call is logged
+abbrev pub logs_ack : List LogAck → Cid → Bool
+logs_ack acks cid = list_any (λ ack. same_cid ack.cid cid) acks
+
+-- the updates that not all replicas have
+-- for example: of `0:1`, `0:2` where the rows are `[1, 0, 0]` and `[2, 0, 0]`: `0:2`
+abbrev pub unknown_updates : {Op : Type 0} → List Stamp → List (LogUpdate Op) → List (LogUpdate Op)
+unknown_updates table updates = filter (λ u. not (known_in table u.spot)) updates
+
+-- the calls but for those that are done: an acknowledgement is logged, and no update
+-- for example: `0.1` leaves once its acknowledgement is logged and `0:1` isn't
+abbrev pub undone_calls : {Op : Type 0} → List (LogUpdate Op) → List LogAck → List (Cid × Known) → List (Cid × Known)
+undone_calls updates acks calls = filter (λ e. not (logs_ack acks e.0 && not (logs_update updates e.0))) calls
+
+-- whether an acknowledgement is of no use any more: all replicas have it, it is late, and no update of its call is logged
+-- for example: that of `0.1` at 7 once the clock is 18, with a delta of 10
+abbrev pub is_spent : {Op : Type 0} → ℕ → ℕ → List Stamp → List (LogUpdate Op) → LogAck → Bool
+is_spent delta clock table updates ack =
+    known_in table ack.spot && (is_late ack.time delta clock && not (logs_update updates ack.cid))
+
+-- pruning: updates that all replicas have leave, then calls that are done, then acknowledgements that are of no use
+-- for example: a lone replica's log has no update after a step
 abbrev pub pruned : {Value Op : Type 0} → ℕ → CausalState Value Op → CausalState Value Op
-pruned replicas state = if replicas == 1 then record state { updates = [] } else state
+pruned delta state =
+    let updates = unknown_updates state.table state.updates in
+    record state {
+      updates = updates;
+      calls = undone_calls updates state.acks state.calls;
+      acks = filter (λ ack. not (is_spent delta state.clock state.table updates ack)) state.acks;
+    }
 
 -- holding a query: it comes behind those that are held
 -- for example: `0.2` behind `0.1`

@@ -1,10 +1,10 @@
 -- The laws of the order of stamps, of their join, and of writing a part.
 -- Facts with their proofs: `stamp_le` is an order and goes part by part, a part of a `join` is the greater of the two,
 -- and `set_part` changes one part.
-use Rattle.std.proofs.Common.{◌≡◌, ◌≢◌, ◌<◌, ℕ, zero, suc, max, true, ◌==◌, nat_le, [], ◌∷◌, length, replicate, refl}
+use Rattle.std.proofs.Common.{◌≡◌, ◌≢◌, ◌<◌, ℕ, zero, suc, max, min, true, ◌==◌, nat_le, [], ◌∷◌, length, replicate, refl}
 use Rattle.std.proofs.Common.{arith, eq-eqb, eqb-true, leb-true, le-leb}
 use Rattle.std.proofs.lemmas.Bool.{and_parts}
-use Rattle.lr_base.specs.Stamps.{Stamp, part, join, stamp_le, set_part}
+use Rattle.lr_base.specs.Stamps.{Stamp, part, join, meet, stamp_le, set_part}
 use Rattle.lr_base.specs.Lattice.{IsLeastAbove, IsPartwise}
 
 -- where the order holds, each part is at most its counterpart
@@ -71,6 +71,22 @@ part-join [] b place = omega arith
 part-join (x ∷ a) [] place = omega arith
 part-join (x ∷ a) (y ∷ b) zero = refl
 part-join (x ∷ a) (y ∷ b) (suc place) = part-join a b place
+
+-- the meet of two stamps with one count of parts has that count
+pub length-meet : (a b : Stamp) → length a ≡ length b → length (meet a b) ≡ length a
+length-meet [] b long = refl
+length-meet (x ∷ a) [] long = absurd (omega arith)
+length-meet (x ∷ a) (y ∷ b) long =
+    let rest : length (meet a b) ≡ length a = length-meet a b (omega arith) in
+    omega arith
+
+-- a part of the meet is the lesser of the two
+pub part-meet : (a b : Stamp) (place : ℕ) → part (meet a b) place ≡ min (part a place) (part b place)
+part-meet [] b place = omega arith
+part-meet (x ∷ a) [] zero = omega arith
+part-meet (x ∷ a) [] (suc place) = part-meet a [] place
+part-meet (x ∷ a) (y ∷ b) zero = refl
+part-meet (x ∷ a) (y ∷ b) (suc place) = part-meet a b place
 
 -- the join is the least stamp above both
 pub join-least : (a b : Stamp) → IsLeastAbove a b (join a b)

@@ -1,5 +1,6 @@
 -- Stamps, as lists of parts: one part for each place. A part past the end is 0.
-use Rattle.std.specs.Prelude.{ℕ, zero, suc, max, Bool, true, ◌&&◌, ◌==◌, nat_le, List, [], ◌∷◌}
+use Rattle.std.specs.Prelude.{ℕ, zero, suc, max, min, Bool, true, ◌≤◌, ◌&&◌, ◌==◌, nat_le, List, [], ◌∷◌, length}
+use Rattle.lr_base.specs.Limits.{last_number, most_parts}
 
 -- a stamp, as the list of its parts
 -- for example: `[3, 1]`
@@ -20,6 +21,13 @@ join [] b = b
 join (x ∷ a) [] = x ∷ a
 join (x ∷ a) (y ∷ b) = max x y ∷ join a b
 
+-- the lesser of each pair of parts
+-- for example: `meet [3, 1] [2, 5]` is `[2, 1]`
+abbrev pub meet : Stamp → Stamp → Stamp
+meet [] b = []
+meet (x ∷ a) [] = 0 ∷ meet a []
+meet (x ∷ a) (y ∷ b) = min x y ∷ meet a b
+
 -- whether each part of the first is at most its counterpart in the second
 -- for example: true of `[2, 1]`, `[3, 1]`; false of `[4, 0]`, `[3, 1]`
 abbrev pub stamp_le : Stamp → Stamp → Bool
@@ -34,3 +42,9 @@ set_part [] zero n = n ∷ []
 set_part [] (suc place) n = 0 ∷ set_part [] place n
 set_part (x ∷ a) zero n = n ∷ a
 set_part (x ∷ a) (suc place) n = x ∷ set_part a place n
+
+-- what a stamp of the program always is: it has at most `most_parts` parts, and each is at most `last_number`
+-- for example: `[3, 1]`, and not `[2^62 + 1, 1]`
+pub record IsBounded (a : Stamp) : Type 0 where
+  pub few : length a ≤ most_parts
+  pub parts : (place : ℕ) → part a place ≤ last_number

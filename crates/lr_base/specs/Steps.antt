@@ -63,9 +63,9 @@ still_held state = record state { held = filter (λ call. not (stamp_le call.pre
 -- the end of each step: what is ready is applied, then held queries are answered, then what is known everywhere leaves
 -- for example: `add x 3` is applied, and a lone replica's log is empty
 abbrev pub ended : {Value Op : Type 0} → Meaning Value Op → ℕ → CausalState Value Op → List (Act Op) → Ending Value Op
-ended m replicas state own =
+ended m delta state own =
     let now = applied m state in
-    record { state = pruned replicas (still_held now); acts = own ++ held_acts m now now.held }
+    record { state = pruned delta (still_held now); acts = own ++ held_acts m now now.held }
 
 -- nothing is done of its own, and this is why
 -- for example: the same state, and the line `refuse worn`
@@ -134,10 +134,10 @@ idle state = record { state = state; acts = [] }
 
 -- gossip is taken, if it comes from another replica
 -- for example: `take 1`
-abbrev pub gossip_given : {Value Op : Type 0} → ℕ → CausalState Value Op → Gossip Op → Bool → Ending Value Op
-gossip_given from state gossip true = idle state
-gossip_given from state gossip false =
-    record { state = gossip_taken from state gossip; acts = Say (Take (new_count state gossip)) ∷ [] }
+abbrev pub gossip_given : {Value Op : Type 0} → ℕ → ℕ → CausalState Value Op → Gossip Op → Bool → Ending Value Op
+gossip_given me from state gossip true = idle state
+gossip_given me from state gossip false =
+    record { state = gossip_taken me from state gossip; acts = Say (Take (new_count state gossip)) ∷ [] }
 
 -- what a message itself does at a replica: replies have no rule there, nor has what comes from where it can't
 -- for example: of a reply: nothing
@@ -149,7 +149,7 @@ own_taken m config me state (Client client) (Query call) = query_taken m state c
 own_taken m config me state (Client client) (Ack cid time) =
     let logged = find (λ ack. same_cid ack.cid cid) state.acks in
     ack_taken me state cid time logged (has_room state) (has_number me state)
-own_taken m config me state (Replica from) (GossipMessage gossip) = gossip_given from state gossip (from == me)
+own_taken m config me state (Replica from) (GossipMessage gossip) = gossip_given me from state gossip (from == me)
 own_taken m config me state _ _ = idle state
 
 -- what a replica does with a message, to the end of the step
@@ -158,23 +158,23 @@ abbrev pub taken : {Value Op : Type 0} → Meaning Value Op → Config → ℕ �
     → Ending Value Op
 taken m config me state from message =
     let own = own_taken m config me state from message in
-    ended m config.replicas own.state own.acts
+    ended m config.delta own.state own.acts
 
 -- a replica sends gossip to another, to the end of the step
 -- for example: `send 4 r0 r1 gossip`
 abbrev pub gossiped : {Value Op : Type 0} → Meaning Value Op → ℕ → ℕ → CausalState Value Op → Ending Value Op
-gossiped m replicas to state = ended m replicas state (Send (Replica to) (GossipMessage (gossip_of state)) ∷ [])
+gossiped m delta to state = ended m delta state (Send (Replica to) (GossipMessage (gossip_of to state)) ∷ [])
 
 -- a replica reads its clock, to the end of the step
 -- for example: `clock 5`
 abbrev pub clock_set : {Value Op : Type 0} → Meaning Value Op → ℕ → ℕ → CausalState Value Op → Ending Value Op
-clock_set m replicas reading state =
-    ended m replicas (ticked reading state) (Say (ClockAt (max state.clock reading)) ∷ [])
+clock_set m delta reading state =
+    ended m delta (ticked reading state) (Say (ClockAt (max state.clock reading)) ∷ [])
 
 -- what a replica of this number does with what comes to it, to the end of the step
 -- for example: `taken` of a message
 abbrev pub did : {Value Op : Type 0} → Meaning Value Op → Config → ℕ → CausalState Value Op → NodeEvent Op
     → Ending Value Op
 did m config me state (TakeMessage from message) = taken m config me state from message
-did m config me state (Tick reading) = clock_set m config.replicas reading state
-did m config me state (TellGossip to) = gossiped m config.replicas to state
+did m config me state (Tick reading) = clock_set m config.delta reading state
+did m config me state (TellGossip to) = gossiped m config.delta to state

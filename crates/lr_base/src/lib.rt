@@ -5,6 +5,7 @@ mod acts;
 mod bytes;
 mod events;
 mod executed;
+mod lateness;
 mod laws;
 mod limits;
 pub mod lr_service;
@@ -23,6 +24,7 @@ pub use bytes::{
 };
 pub use events::{Event, Outcome, Refusal, Sent, StateLine, Step};
 pub use executed::Executed;
+pub use lateness::late;
 pub use laws::{join_is_least, order_of_stamps, set_part_changes_one};
 pub use limits::{
     HELD_ROOM, LAST_NUMBER, LOG_ROOM, MOST_CLIENTS, MOST_PARTS, MOST_REPLICAS, MOST_SCRIPT_BYTES,

@@ -1,5 +1,6 @@
 //! What clients and replicas send one another.
-ghost use Rattle.std.specs.Prelude.{⊤, ◌≡◌, ◌<◌, length, IfOk};
+ghost use Rattle.std.specs.Prelude.{⊤, ◌≡◌, ◌<◌, ◌≤◌, length, IfOk};
+ghost use Rattle.lr_base.specs.Limits.{last_number};
 ghost use Rattle.lr_base.specs.Rules.{stamp_of};
 
 use crate::lr_service::Operation;
@@ -42,7 +43,8 @@ pub struct LogUpdate<O> {
 impl<O> LogUpdate<O> {
     /// Its causes, and its own number at its place.
     pub fn stamp(&self) -> Stamp
-        requires { self.now.spot.place < length self.now.prev }
+        requires place { self.now.spot.place < length self.now.prev }
+        requires number { self.now.spot.number ≤ last_number }
         ensures stamp { result ≡ stamp_of self.now }
         ensures parts { length result ≡ length self.now.prev }
     {

@@ -1,7 +1,7 @@
 //! Multipart timestamps.
 ghost use Rattle.std.specs.Prelude.{⊤, ◌≡◌, ◌<◌, ◌≤◌, [], ◌∷◌, ◌++◌, length, replicate};
-ghost use Rattle.lr_base.specs.Limits.{most_parts};
-ghost use Rattle.lr_base.specs.Stamps.{part, join, stamp_le, set_part};
+ghost use Rattle.lr_base.specs.Limits.{last_number, most_parts};
+ghost use Rattle.lr_base.specs.Stamps.{IsBounded, part, join, meet, stamp_le, set_part};
 
 use crate::limits::MOST_PARTS;
 use arrayvec::ArrayVec;
@@ -15,14 +15,14 @@ pub struct Stamp {
 }
 
 impl Model for Stamp {
-    ghost use Rattle.std.specs.Prelude.{List, ℕ, ◌≤◌, length};
-    ghost use Rattle.lr_base.specs.Limits.{most_parts};
+    ghost use Rattle.std.specs.Prelude.{List, ℕ};
+    ghost use Rattle.lr_base.specs.Stamps.{IsBounded};
 
     ghost Value = { List ℕ };
 
     ghost view = { λ it. it.parts.items };
 
-    ghost invariant = { λ it. length it.parts.items ≤ most_parts };
+    ghost invariant = { λ it. IsBounded it.parts.items };
 }
 
 impl Stamp {
@@ -47,9 +47,17 @@ impl Stamp {
         }
     }
 
+    /// The law that no part is above the last number.
+    pub fn keeps(&self)
+        ensures { IsBounded self.now }
+    {
+        let _ = &self.parts;
+    }
+
     /// Adds a part behind the others.
     pub fn push(&mut self, number: u64)
-        requires { length self.old < most_parts }
+        requires room { length self.old < most_parts }
+        requires number { number ≤ last_number }
         ensures { self.new ≡ self.old ++ number ∷ [] }
     {
         self.parts.push(number);
@@ -88,7 +96,8 @@ impl Stamp {
 
     /// Writes the part at a place.
     pub fn set_part(&mut self, place: u8, number: u64)
-        requires { place < length self.old }
+        requires place { place < length self.old }
+        requires number { number ≤ last_number }
         ensures set { self.new ≡ set_part self.old place number }
         ensures parts { length self.new ≡ length self.old }
     {
@@ -102,6 +111,15 @@ impl Stamp {
         ensures parts { length self.new ≡ length self.old }
     {
         raise(self.parts.as_mut_slice(), other.parts.as_slice());
+    }
+
+    /// Takes the lesser of each pair of parts.
+    pub fn meet(&mut self, other: &Stamp)
+        requires { length self.old ≡ length other.now }
+        ensures met { self.new ≡ meet self.old other.now }
+        ensures parts { length self.new ≡ length self.old }
+    {
+        lower(self.parts.as_mut_slice(), other.parts.as_slice());
     }
 
     /// Whether each part is at most its counterpart.
@@ -123,6 +141,15 @@ impl Clone for Stamp {
     }
 }
 
+impl Default for Stamp {
+    ghost is_default = { λ stamp. stamp ≡ [] };
+
+    /// The stamp without parts, as containers fill their free places.
+    fn default() -> Stamp {
+        Stamp::none()
+    }
+}
+
 // These parts, copied at once.
 fn stored(parts: &[u64]) -> ArrayVec<u64, MOST_PARTS>
     requires { length parts.now ≤ most_parts }
@@ -139,6 +166,17 @@ fn raise(own: &mut [u64], other: &[u64])
 {
     for i in 0..own.len() {
         if own[i] < other[i] {
+            own[i] = other[i];
+        }
+    }
+}
+
+fn lower(own: &mut [u64], other: &[u64])
+    requires { length own.old ≡ length other.now }
+    ensures { own.new ≡ meet own.old other.now }
+{
+    for i in 0..own.len() {
+        if other[i] < own[i] {
             own[i] = other[i];
         }
     }

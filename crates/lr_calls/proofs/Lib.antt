@@ -1,2 +1,3 @@
+mod Forgetting
 mod SortedCalls
 mod Tables

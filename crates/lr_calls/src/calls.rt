@@ -1,11 +1,11 @@
 //! Which calls were executed, and where.
 ghost use Rattle.std.specs.Prelude.{◌≡◌, [], ◌∷◌, map, IfOk, OnOk, OnErr, None, is_some};
 ghost use Rattle.lr_base.specs.Calls.{enter_call};
-ghost use Rattle.lr_base.specs.Rules.{known_of};
+ghost use Rattle.lr_base.specs.Rules.{known_of, undone_calls};
 ghost use Rattle.lr_calls.specs.Tables.{without};
 
 use indexmap::IndexMap;
-use lr_base::{Cid, Known, NoMemory};
+use lr_base::{Cid, Known, LogAck, NoMemory, Places};
 use std::alloc::Global;
 use std::marker::Model;
 
@@ -98,6 +98,18 @@ impl CallTable {
     {
         for cid in cids {
             self.take_out(*cid);
+        }
+    }
+
+    /// Forgets the calls that are done: those with one of these acknowledgements, and no update in the log. It takes no
+    /// memory, and it looks up one call an acknowledgement, never through the table.
+    pub fn forget<O, L: Places<O>>(&mut self, log: &L, acks: &[LogAck])
+        ensures { self.new ≡ undone_calls (L.updates log.now) acks.now self.old }
+    {
+        for ack in acks {
+            if !log.has_update(ack.cid) {
+                self.take_out(ack.cid);
+            }
         }
     }
 }

@@ -2,9 +2,8 @@
 #![tactic(auto)]
 
 mod calls;
-mod lateness;
 #[cfg(test)]
 mod tests;
 
 pub use calls::CallTable;
-pub use lateness::late;
+pub use lr_base::late;

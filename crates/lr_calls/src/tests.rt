@@ -1,6 +1,8 @@
 //! Copies that are late or in time at both ends of the clock, and calls that come to a table and leave it.
 use crate::{CallTable, late};
-use lr_base::{Cid, Known, NoMemory, Spot, Stamp};
+use lr_base::{Cid, Known, LogAck, LogUpdate, NoMemory, Places, Spot, Stamp};
+use std::alloc::Global;
+use std::slice;
 use std::test::Fail;
 
 #[test]
@@ -69,5 +71,83 @@ fn calls_come_to_a_table_and_leave_it(rt: HostRuntime) -> Result<(), Fail> {
     assert!(rt; table.cids(rt.alloc())?.as_slice() == left.as_slice());
     assert_eq!(rt; number_of(&table, cid(1, 1)), None);
     assert_eq!(rt; number_of(&copied, cid(1, 1)), Some(5));
+    Ok(())
+}
+
+// A log with one update.
+#[derive(Drop)]
+struct OneUpdate {
+    update: LogUpdate<u8>,
+}
+
+impl Places<u8> for OneUpdate {
+    ghost use Rattle.std.specs.Prelude.{[], ◌∷◌};
+
+    ghost updates = { λ log. log.update ∷ [] };
+
+    fn updates_of(&self, place: u8) -> &[LogUpdate<u8>] {
+        if self.update.spot.place == place {
+            slice::from_ref(&self.update)
+        } else {
+            &[]
+        }
+    }
+
+    fn has_update(&self, cid: Cid) -> bool {
+        self.update.cid == cid
+    }
+}
+
+// An acknowledgement of a call.
+fn ack(client: u32, seq: u64) -> LogAck {
+    LogAck {
+        spot: Spot {
+            place: 1,
+            number: seq,
+        },
+        cid: cid(client, seq),
+        time: 0,
+    }
+}
+
+// The calls that stay of `0.1`, `0.2` and `1.1`, of which the first has an update in the log.
+fn left_by(alloc: Global, acks: &[LogAck]) -> Result<Vec<Cid>, NoMemory> {
+    let mut table = CallTable::new(alloc);
+    for cid in [cid(0, 1), cid(0, 2), cid(1, 1)] {
+        let _entered = enter(&mut table, cid, 1)?;
+    }
+    let log = OneUpdate {
+        update: LogUpdate {
+            spot: Spot {
+                place: 0,
+                number: 1,
+            },
+            cid: cid(0, 1),
+            prev: Stamp::zero(2),
+            op: 0,
+        },
+    };
+    table.forget(&log, acks);
+    table.cids(alloc)
+}
+
+#[test]
+fn calls_that_are_done_are_forgotten(rt: HostRuntime) -> Result<(), Fail> {
+    let all = [cid(0, 1), cid(0, 2), cid(1, 1)];
+    let but_the_second = [cid(0, 1), cid(1, 1)];
+    let logged = [cid(0, 1)];
+    // (what is acknowledged, acknowledgements, calls that stay)
+    let cases: [(&str, &[LogAck], &[Cid]); 6] = [
+        ("nothing", &[], &all),
+        ("a call without an update", &[ack(0, 2)], &but_the_second),
+        ("a call with an update", &[ack(0, 1)], &all),
+        ("a call that isn't there", &[ack(1, 2)], &all),
+        ("a call twice", &[ack(0, 2), ack(0, 2)], &but_the_second),
+        ("each call", &[ack(1, 1), ack(0, 1), ack(0, 2)], &logged),
+    ];
+    for (what, acks, want) in cases {
+        let left = left_by(rt.alloc(), acks)?;
+        assert!(rt; left.as_slice() == want, "{what}");
+    }
     Ok(())
 }

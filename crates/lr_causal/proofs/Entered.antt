@@ -1,5 +1,6 @@
 -- Calls that were entered in a table and leave it again.
 use Rattle.std.proofs.Common.{◌≡◌, ◌∙◌, ◌++◌, ◌||◌, List, [], ◌∷◌, refl, sym, ap, ℕ, Bool, true, false, cond}
+use Rattle.std.specs.Prelude.{filter}
 use Rattle.std.proofs.Common.{Some, None, take, drop, length, ◌≤◌, ◌⊎◌, inl, inr}
 use Rattle.std.proofs.Math.Seq.{drop-length, take-length}
 use Rattle.std.proofs.lemmas.List.{drop-append-le, take-append-drop, take-append-le}
@@ -8,7 +9,7 @@ use Rattle.lr_base.specs.CallLaws.{none-known}
 use Rattle.lr_base.specs.Calls.{enter_call, up_to_call}
 use Rattle.lr_base.specs.Ascending.{same_cid}
 use Rattle.lr_base.specs.Logged.{AllKnown}
-use Rattle.lr_base.specs.NameLaws.{same_cid-self, same_cid-sym}
+use Rattle.lr_base.specs.NameLaws.{same_cid-is, same_cid-self, same_cid-sym}
 use Rattle.lr_base.specs.Rules.{known_of}
 use Rattle.lr_base.specs.declared.names.Cid.{Cid}
 use Rattle.lr_base.specs.declared.messages.Known.{Known}
@@ -85,3 +86,44 @@ AllKnown-without parts cids calls left is all =
 -- a table under another name
 pub AllKnown-along : (parts : ℕ) (calls same : List (Cid × Known)) → same ≡ calls → AllKnown parts calls → AllKnown parts same
 AllKnown-along parts calls same is all = rw is all
+
+module _ (keep : Cid → Bool) where
+  -- a call that is known among those that stay is one that stays
+  known-stays : (calls : List (Cid × Known)) (q : Cid) (known : Known)
+      → known_of (filter (λ e. keep e.0) calls) q ≡ Some known → keep q ≡ true
+  known-stays [] q known is = let none : None ≡ Some known = is in cc
+  known-stays (e ∷ calls) q known is = go (keep e.0) refl (same_cid q e.0) refl is (known-stays calls q known)
+    where
+      go : (s : Bool) → keep e.0 ≡ s → (t : Bool) → same_cid q e.0 ≡ t
+          → known_of (cond s (e ∷ filter (λ x. keep x.0) calls) (filter (λ x. keep x.0) calls)) q ≡ Some known
+          → (known_of (filter (λ x. keep x.0) calls) q ≡ Some known → keep q ≡ true) → keep q ≡ true
+      go true stays true same is rest = ap keep (same_cid-is q e.0 same) ∙ stays
+      go true stays false same is rest =
+          let later : known_of (filter (λ x. keep x.0) calls) q ≡ Some known = rw same at is in rest later
+      go false stays t same is rest = rest is
+
+  -- and was known before
+  known-before : (calls : List (Cid × Known)) (q : Cid) (known : Known)
+      → known_of (filter (λ e. keep e.0) calls) q ≡ Some known → known_of calls q ≡ Some known
+  known-before [] q known is = is
+  known-before (e ∷ calls) q known is =
+      go (keep e.0) refl (same_cid q e.0) refl is (known-before calls q known)
+      (λ later. known-stays calls q known later)
+    where
+      go : (s : Bool) → keep e.0 ≡ s → (t : Bool) → same_cid q e.0 ≡ t
+          → known_of (cond s (e ∷ filter (λ x. keep x.0) calls) (filter (λ x. keep x.0) calls)) q ≡ Some known
+          → (known_of (filter (λ x. keep x.0) calls) q ≡ Some known → known_of calls q ≡ Some known)
+          → (known_of (filter (λ x. keep x.0) calls) q ≡ Some known → keep q ≡ true)
+          → known_of (e ∷ calls) q ≡ Some known
+      go true stays true same is rest own = rw same (let here : Some e.1 ≡ Some known = rw same at is in here)
+      go true stays false same is rest own =
+          let later : known_of (filter (λ x. keep x.0) calls) q ≡ Some known = rw same at is in
+          rw same (rest later)
+      go false stays true same is rest own =
+          let no : false ≡ true = sym stays ∙ ap keep (sym (same_cid-is q e.0 same)) ∙ own is in cc
+      go false stays false same is rest own = rw same (rest is)
+
+  -- what is known of a call that stays was known before
+  pub AllKnown-filter : (parts : ℕ) (calls left : List (Cid × Known)) → left ≡ filter (λ e. keep e.0) calls
+      → AllKnown parts calls → AllKnown parts left
+  AllKnown-filter parts calls left is all = rw is (λ cid known e. all cid known (known-before calls cid known e))

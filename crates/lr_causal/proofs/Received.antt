@@ -72,6 +72,11 @@ module _ {Op : Type 0} where
   AllReceived-stays rep_ts stamp updates kept at is =
       rw (at, is) (Each-passes (λ (u : LogUpdate Op). is_new rep_ts u.spot ≡ false) (λ u. not (is_new rep_ts u.spot)) updates (λ u stays. stays-received rep_ts u.spot stays))
 
+  -- those of a log that are new for another
+  pub AllReceived-told : (rep_ts stamp theirs : List ℕ) (updates told : List (LogUpdate Op)) → stamp ≡ rep_ts → told ≡ filter (λ u. is_new theirs u.spot) updates → AllReceived rep_ts updates → AllReceived stamp told
+  AllReceived-told rep_ts stamp theirs updates told at is all =
+      rw (at, is) (Each-filter (λ (u : LogUpdate Op). is_new rep_ts u.spot ≡ false) (λ u. is_new theirs u.spot) updates all)
+
 -- and so for acknowledgements
 pub AllAcksReceived-later : (first later : List ℕ) (acks same : List LogAck) → stamp_le first later ≡ true → same ≡ acks → AllAcksReceived first acks → AllAcksReceived later same
 AllAcksReceived-later first later acks same le is all = rw is (λ k a e. received-later first later a.spot le (all k a e))
@@ -102,3 +107,7 @@ AllAcksReceived-gained rep_ts told_ts stamp told new own acks at is gained all a
 pub AllAcksReceived-stays : (rep_ts stamp : List ℕ) (acks kept : List LogAck) → stamp ≡ rep_ts → kept ≡ filter (λ a. not (is_new rep_ts a.spot)) acks → AllAcksReceived stamp kept
 AllAcksReceived-stays rep_ts stamp acks kept at is =
     rw (at, is) (Each-passes (λ (a : LogAck). is_new rep_ts a.spot ≡ false) (λ a. not (is_new rep_ts a.spot)) acks (λ a stays. stays-received rep_ts a.spot stays))
+
+pub AllAcksReceived-told : (rep_ts stamp theirs : List ℕ) (acks told : List LogAck) → stamp ≡ rep_ts → told ≡ filter (λ a. is_new theirs a.spot) acks → AllAcksReceived rep_ts acks → AllAcksReceived stamp told
+AllAcksReceived-told rep_ts stamp theirs acks told at is all =
+    rw (at, is) (Each-filter (λ (a : LogAck). is_new rep_ts a.spot ≡ false) (λ a. is_new theirs a.spot) acks all)

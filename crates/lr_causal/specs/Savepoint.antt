@@ -12,10 +12,11 @@ use Rattle.lr_base.specs.declared.names.Cid.{Cid}
 use Rattle.lr_calls.specs.Tables.{without}
 use Rattle.lr_value.specs.Applied.{Applied, Lagging}
 
--- what a savepoint remembers of a state: the clock, the stamps and the one row that a step may overwrite, which calls
--- were entered since, how many queries were held, and the value where it was changed
--- for example: clock 5, `[1, 0]`, the number 1, row 0 with its stamp, no call, no query, no value
+-- what a savepoint remembers of a replica's state: whose it is, the clock, the stamps and the one row that a step may
+-- overwrite, which calls were entered since, how many queries were held, and the value where it was changed
+-- for example: replica 0, clock 5, `[1, 0]`, the number 1, row 0 with its stamp, no call, no query, no value
 pub record Saved (Value : Type 0) : Type 0 where
+  pub me : ℕ
   pub clock : ℕ
   pub rep_ts : List ℕ
   pub top : ℕ
@@ -49,32 +50,34 @@ restored p state =
       updates = filter (λ u. not (is_new p.rep_ts u.spot)) state.updates;
       acks = filter (λ a. not (is_new p.rep_ts a.spot)) state.acks;
       calls = without p.entered state.calls;
-      table = set state.table p.heard p.row;
+      table = set (set state.table p.heard p.row) p.me p.rep_ts;
       top = p.top;
       held = take p.held state.held;
     }
 
--- a savepoint has a row of a state, and its stamps have as many parts as the state's
--- for example: row 0 of 1, 2 parts
-pub record HasShapeOf {Value Op : Type 0} (p : Saved Value) (state : CausalState Value Op) : Type 0 where
-  pub rep_parts : length p.rep_ts ≡ length state.rep_ts
-  pub within : p.heard < length state.table
-  pub row_parts : length p.row ≡ length state.rep_ts
-  pub val_parts : ForSome p.applied (λ before. length before.val_ts ≡ length state.rep_ts)
+-- a savepoint is of this replica, has a row of its table, and its stamps have as many parts as the replica's
+-- for example: replica 0, row 0 of 1, 2 parts
+pub record HasShapeOf {Value Op : Type 0} (p : Saved Value) (it : ReplicaState Value Op) : Type 0 where
+  pub own : p.me ≡ it.me
+  pub rep_parts : length p.rep_ts ≡ length it.causal.rep_ts
+  pub within : p.heard < length it.causal.table
+  pub row_parts : length p.row ≡ length it.causal.rep_ts
+  pub val_parts : ForSome p.applied (λ before. length before.val_ts ≡ length it.causal.rep_ts)
 
 -- an older value comes to the one of now with the operations executed since, where these were kept
 -- for example: x is 3, `add x 4`, and 7 now
 abbrev pub Lags : {Value : Type 0} → Option (Lagging Value) → Value → Type 0
 Lags applied now = ForSome applied (λ older. ForSome older.newer (λ value. value ≡ now))
 
--- from this state the savepoint gives back the one before
+-- from the state of this replica the savepoint gives back the one before
 -- for example: so after `0:2` was accepted and applied
-pub record IsPointOf {Value Op : Type 0} (p : Saved Value) (state before : CausalState Value Op) : Type 0 where
-  pub restores : restored p state ≡ before
-  pub received : stamp_le p.rep_ts state.rep_ts ≡ true
-  pub held_most : p.held ≤ length state.held
-  pub lags : Lags p.applied state.value
-  pub shape : HasShapeOf p state
+pub record IsPointOf {Value Op : Type 0} (p : Saved Value) (it : ReplicaState Value Op) (before : CausalState Value Op)
+    : Type 0 where
+  pub restores : restored p it.causal ≡ before
+  pub received : stamp_le p.rep_ts it.causal.rep_ts ≡ true
+  pub held_most : p.held ≤ length it.causal.held
+  pub lags : Lags p.applied it.causal.value
+  pub shape : HasShapeOf p it
 
 -- it is still the same replica of the same run
 -- for example: replica 0
@@ -87,4 +90,4 @@ pub record IsSame {Value Op : Type 0} (before after : ReplicaState Value Op) : T
 pub record CanUndo {Value Op : Type 0} (row : ℕ) (before after : ReplicaState Value Op) : Type 0 where
   pub same : IsSame before after
   pub points : (p : Saved Value) (start : CausalState Value Op) → p.heard ≡ row
-      → IsPointOf p before.causal start → IsPointOf p after.causal start
+      → IsPointOf p before start → IsPointOf p after start

@@ -10,13 +10,13 @@ use Rattle.lr_causal.specs.declared.causal.Causal.{Causal}
 abbrev pub state_of : {S Op : Type 0} {g : _} {h : _} → Causal S Op g h → CausalState S Op
 state_of c = record {
   clock = c.clock;
-  rep_ts = c.rep_ts;
+  rep_ts = c.table.own;
   val_ts = c.value.val_ts;
   value = c.value.value;
   updates = c.log.updates;
   acks = c.log.acks;
   calls = c.calls;
-  table = c.table.items;
+  table = c.table.rows;
   order_ts = c.order_ts;
   imm_ts = c.imm_ts;
   top = c.top;

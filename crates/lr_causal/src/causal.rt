@@ -2,16 +2,15 @@
 ghost use Rattle.std.specs.Prelude.{◌≡◌, ◌+◌, ◌<◌, length, IfOk, IsTrue};
 ghost use Rattle.lr_base.specs.Config.{IsValid};
 ghost use Rattle.lr_base.specs.Logged.{AllAcksReceived, AllKnown, AllLogged, AllReceived};
-ghost use Rattle.lr_causal.specs.Causal.{AllStamps, HasSeen, NoneApplied};
+ghost use Rattle.lr_causal.specs.Causal.{HasSeen, NoneApplied};
 ghost use Rattle.lr_value.specs.Remembered.{Remembers};
 
 use crate::gossip::{new_acks, new_updates};
-use crate::heard::{copy_table, first_table, join_row};
 use crate::labels::{is_applied, none_applied};
 use lr_base::lr_service::{Operation, Service};
 use lr_base::{Call, Cid, Config, Fresh, Gossip, Known, LogUpdate, NoMemory, Spot, Stamp, Text};
 use lr_calls::{CallTable, late};
-use lr_log::Log;
+use lr_log::{Log, Table};
 use lr_value::Value;
 use std::alloc::Global;
 
@@ -26,12 +25,11 @@ pub struct Causal<S: Service> {
     config: Config,
     me: u8,
     clock: u64,
-    rep_ts: Stamp,
     log: Log<S::Op>,
     value: Value<S>,
     calls: CallTable,
-    // What each replica was last heard to have received.
-    table: Vec<Stamp>,
+    // What each replica told that it has received, and what was received here.
+    table: Table,
     order_ts: Stamp,
     imm_ts: Stamp,
     top: u64,
@@ -41,18 +39,18 @@ pub struct Causal<S: Service> {
     all_wait: bool,
     ghost valid: { IsValid config },
     ghost own_place: { me < config.replicas },
-    ghost rep_parts: { length rep_ts ≡ config.replicas + 1 },
+    ghost own_table: { table.me ≡ me },
+    ghost rows: { length table.rows ≡ config.replicas },
+    ghost rep_parts: { length table.own ≡ config.replicas + 1 },
     ghost val_parts: { length value.val_ts ≡ config.replicas + 1 },
     ghost order_parts: { length order_ts ≡ config.replicas + 1 },
     ghost imm_parts: { length imm_ts ≡ config.replicas + 1 },
     ghost logged: { AllLogged S.Op.kind_of (config.replicas + 1) log.updates },
-    ghost updates_received: { AllReceived rep_ts log.updates },
-    ghost acks_received: { AllAcksReceived rep_ts log.acks },
+    ghost updates_received: { AllReceived table.own log.updates },
+    ghost acks_received: { AllAcksReceived table.own log.acks },
     ghost known: { AllKnown (config.replicas + 1) calls },
-    ghost rows: { length table.items ≡ config.replicas },
-    ghost row_parts: { AllStamps (config.replicas + 1) table.items },
     ghost remembers: { Remembers value log.updates },
-    ghost seen: { HasSeen rep_ts value.memory },
+    ghost seen: { HasSeen table.own value.memory },
     ghost waits: { IsTrue all_wait → NoneApplied value.val_ts held.items },
 }
 
@@ -82,16 +80,14 @@ impl<S: Service> Causal<S> {
     {
         let parts = config.replicas + 1;
         let value = Value::new(alloc, parts)?;
-        let table = first_table(alloc, config.replicas, parts)?;
         Ok(Causal {
             config,
             me,
             clock: 0,
-            rep_ts: Stamp::zero(parts),
             log: Log::new(alloc),
             value,
             calls: CallTable::new(alloc),
-            table,
+            table: Table::new(config, me),
             order_ts: Stamp::zero(parts),
             imm_ts: Stamp::zero(parts),
             top: 0,
@@ -132,7 +128,7 @@ impl<S: Service> Causal<S> {
         ensures rep_ts { result.now ≡ (state_of self.now).rep_ts }
         ensures parts { length result.now ≡ (config_of self.now).replicas + 1 }
     {
-        &self.rep_ts
+        self.table.own()
     }
 
     /// What the value stands for.
@@ -165,11 +161,11 @@ impl<S: Service> Causal<S> {
         &self.calls
     }
 
-    /// What each replica was last heard to have received.
+    /// What each replica told that it has received, and of this one what was received here.
     pub fn table(&self) -> &[Stamp]
         ensures { result.now ≡ (state_of self.now).table }
     {
-        self.table.as_slice()
+        self.table.rows()
     }
 
     /// The held queries, in the order of arrival.
@@ -209,17 +205,15 @@ impl<S: Service> Causal<S> {
         let log = self.log.copy()?;
         let value = self.value.copy()?;
         let calls = self.calls.copy()?;
-        let table = copy_table(self.table.as_slice(), self.log.allocator())?;
         let held = copy_held(self.held.as_slice(), self.log.allocator())?;
         Ok(Causal {
             config: self.config,
             me: self.me,
             clock: self.clock,
-            rep_ts: self.rep_ts.copy(),
             log,
             value,
             calls,
-            table,
+            table: self.table.copy(),
             order_ts: self.order_ts.copy(),
             imm_ts: self.imm_ts.copy(),
             top: self.top,
@@ -279,7 +273,8 @@ impl<S: Service> Causal<S> {
         ensures err { OnErr result (state_of self.new ≡ state_of self.old) }
         ensures undo { (row : ℕ) → CanUndo row (replica_of self.old) (replica_of self.new) }
     {
-        let number = self.rep_ts.part(self.me) + 1;
+        let mut own = self.table.own().copy();
+        let number = own.part(self.me) + 1;
         let mut prev = call.prev.copy();
         prev.join(&self.imm_ts);
         let update = LogUpdate {
@@ -296,46 +291,52 @@ impl<S: Service> Causal<S> {
         let Ok(()) = self.log.add_update(update) else {
             return Err(NoMemory);
         };
-        self.rep_ts.set_part(self.me, number);
+        own.set_part(self.me, number);
+        self.table.put_own(own);
         self.top = number;
         Ok((spot, stamp))
     }
 
-    /// What it tells another replica: how many items it received of each place, and its whole log.
-    pub fn make_gossip(&self) -> Result<Gossip<S::Op>, NoMemory>
-        ensures gossip { IfOk result (λ made. made ≡ gossip_of (state_of self.now)) }
+    /// What it tells another replica: how many items it received of each place, and of its log what is new for that one,
+    /// by what it was told.
+    pub fn make_gossip(&self, to: u8) -> Result<Gossip<S::Op>, NoMemory>
+        requires { to < (config_of self.now).replicas }
+        ensures gossip { IfOk result (λ made. made ≡ gossip_of to (state_of self.now)) }
         ensures shape { IfOk result (λ made. IsGossip S.Op.kind_of ((config_of self.now).replicas + 1) made) }
     {
         self.log.keeps();
-        let updates = self.log.copy_updates()?;
-        let acks = self.log.copy_acks()?;
+        let theirs = self.table.row(to);
+        let updates = self.log.copy_new_updates(theirs)?;
+        let acks = self.log.copy_new_acks(theirs)?;
         Ok(Gossip {
-            rep_ts: self.rep_ts.copy(),
+            rep_ts: self.table.own().copy(),
             updates,
             acks,
         })
     }
 
-    /// Takes gossip of another replica: what is new is logged, and its stamp is joined. It answers how many items were
-    /// new.
+    /// Takes gossip of another replica: what is new is logged, and its stamp is joined to what was received here and to
+    /// what its sender told. It answers how many items were new.
     pub fn take_gossip(&mut self, from: u8, gossip: &Gossip<S::Op>) -> Result<u64, NoMemory>
         requires from { from < (config_of self.old).replicas }
         requires gossip { IsGossip S.Op.kind_of ((config_of self.old).replicas + 1) gossip.now }
         // what is taken
         ensures count { IfOk result (λ count. count ≡ new_count (state_of self.old) gossip.now) }
-        ensures ok { OnOk result (state_of self.new ≡ gossip_taken from (state_of self.old) gossip.now) }
+        ensures ok { OnOk result (state_of self.new ≡ gossip_taken (me_of self.old) from (state_of self.old) gossip.now) }
         // what stays, and can be undone
         ensures err { OnErr result (state_of self.new ≡ state_of self.old) }
         ensures undo { CanUndo from (replica_of self.old) (replica_of self.new) }
     {
         let alloc = self.log.allocator();
-        let updates = new_updates(alloc, gossip.updates.as_slice(), &self.rep_ts)?;
-        let acks = new_acks(alloc, gossip.acks.as_slice(), &self.rep_ts)?;
+        let mut own = self.table.own().copy();
+        let updates = new_updates(alloc, gossip.updates.as_slice(), &own)?;
+        let acks = new_acks(alloc, gossip.acks.as_slice(), &own)?;
         let Ok(()) = self.log.add_all(updates.as_slice(), acks.as_slice()) else {
             return Err(NoMemory);
         };
-        self.rep_ts.join(&gossip.rep_ts);
-        join_row(&mut self.table, from, &gossip.rep_ts);
+        own.join(&gossip.rep_ts);
+        self.table.merge(from, &gossip.rep_ts);
+        self.table.put_own(own);
         Ok(updates.len() as u64 + acks.len() as u64)
     }
 

@@ -4,8 +4,8 @@
 mod applying;
 mod causal;
 mod entering;
+mod forgetting;
 mod gossip;
-mod heard;
 mod labels;
 mod savepoint;
 

@@ -8,10 +8,12 @@ use lr_value::{Older, Value};
 use std::marker::Model;
 
 /// A replica's state before a step, as far as a step may overwrite it: its clock, what it had received, its last
-/// number, one row of what was heard, which calls were entered since, how many queries were held, and its value once
+/// number, one row of its table, which calls were entered since, how many queries were held, and its value once
 /// that is changed.
 #[derive(Drop)]
 pub struct Savepoint<S: Service> {
+    // Whose state it is.
+    pub(crate) me: u8,
     pub(crate) clock: u64,
     pub(crate) rep_ts: Stamp,
     pub(crate) top: u64,
@@ -32,6 +34,7 @@ impl<S: Service> Model for Savepoint<S> {
     ghost Value = { Saved S };
 
     ghost view = { λ it. record {
+      me = it.me;
       clock = it.clock;
       rep_ts = it.rep_ts;
       top = it.top;

@@ -3,7 +3,7 @@ ghost use Rattle.std.specs.Prelude.{◌≡◌, length, IfOk};
 
 use crate::faults::Fault;
 use lr_base::lr_service::Service;
-use lr_base::{Call, Cid, Stamp, read_number};
+use lr_base::{Call, Cid, LAST_NUMBER, Stamp, read_number};
 use std::alloc::Global;
 use svc_tally::{Tally, TallyOp};
 
@@ -43,7 +43,11 @@ pub fn stamp_of(parts: u8, text: &str) -> Result<Stamp, Fault>
         if stamp.parts() <= place {
             return Err(Fault::BadStamp);
         }
-        stamp.set_part(place, number_of(part)?);
+        let number = number_of(part)?;
+        if number > LAST_NUMBER {
+            return Err(Fault::BadStamp);
+        }
+        stamp.set_part(place, number);
         place += 1;
     }
     if place == parts && stamp.parts() == parts {

@@ -1,5 +1,6 @@
 -- What a history promises to its clients.
 pub mod Changes
+pub mod Again
 pub mod Walk
 pub mod Points
 pub mod Sessions

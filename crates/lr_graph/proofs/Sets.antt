@@ -2,3 +2,4 @@
 pub mod ReadySets
 pub mod Values
 pub mod KeptSpots
+pub mod PutAt

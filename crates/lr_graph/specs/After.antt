@@ -202,17 +202,37 @@ got_read w (Client client) (DoneReply cid names) = takes_reply w client names (S
 got_read w (Client client) (AnswerReply cid names) = takes_reply w client names (w.front client).answered
 got_read w _ _ = w
 
--- the facts after `take`: a replica that gossip came to receives what it carries
--- for example: after `take 1`, `r1` received `0:1`
-abbrev pub take_read : {Op : Type 0} → Facts Op → Actor → Carried Op → Facts Op
-take_read w (Replica i) (GossipOf names) = record w { received = put_at i (w.received i ∪ names) w.received }
-take_read w _ _ = w
+-- what a replica was told, once its sender told it this
+-- for example: `0:1` by `r0` at `r1`, where gossip of `r0` carried it
+abbrev pub told_more : Actor → ℕ → SpotSet → (ℕ → ℕ → SpotSet) → ℕ → ℕ → SpotSet
+told_more (Replica k) i names told = put_at i (put_at k (told i k ∪ names) (told i)) told
+told_more (Client client) i names told = told
 
--- the facts where a message came, if one did
+-- a replica takes gossip: it receives what this names, and was told it by its sender
+-- for example: after `take 1`, `r1` received `0:1`
+abbrev pub takes : {Op : Type 0} → Facts Op → Actor → ℕ → SpotSet → Facts Op
+takes w from i names = record w {
+  received = put_at i (w.received i ∪ names) w.received;
+  told = told_more from i names w.told;
+}
+
+-- the facts after `take`: a replica that gossip came to takes it
+-- for example: `take 1`
+abbrev pub take_read : {Op : Type 0} → Facts Op → Actor → Actor → Carried Op → Facts Op
+take_read w from (Replica i) (GossipOf names) = takes w from i names
+take_read w from _ _ = w
+
+-- the facts where a message came, if one did: what it changes goes by its receiver and what it carries
 abbrev pub with_message : {Op : Type 0} → Facts Op → Option (SentMessage Op)
     → (Actor → Carried Op → Facts Op) → Facts Op
 with_message w None change = w
 with_message w (Some x) change = change x.to x.what
+
+-- and where it goes by its sender too
+abbrev pub with_sender : {Op : Type 0} → Facts Op → Option (SentMessage Op)
+    → (Actor → Actor → Carried Op → Facts Op) → Facts Op
+with_sender w None change = w
+with_sender w (Some x) change = change x.from x.to x.what
 
 -- a replica has read its clock
 -- for example: `clock 5`
@@ -232,7 +252,7 @@ line_read m config x w (Send number from to what) =
 line_read m config x w (Accept spot cid) = with_message w x.came (accept_read w spot)
 line_read m config x w (Note spot cid) = with_message w x.came (note_read w spot)
 line_read m config x w (Hold cid) = with_message w x.came (hold_read w)
-line_read m config x w (Take count) = with_message w x.came (take_read w)
+line_read m config x w (Take count) = with_sender w x.came (take_read w)
 line_read m config x w (Got cid) = with_message w x.came (got_read w)
 line_read m config x w (Stale cid) = w
 line_read m config x w (ClockAt reading) = at_replica w (replica_in x.actor) (λ i. clock_set w i reading)

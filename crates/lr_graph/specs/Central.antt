@@ -1,7 +1,7 @@
 -- What stamps stand for in a run: the sets of acceptances that they name. The contract of `stamps_stand_for_sets`
 -- says that `IsCentral` holds after every history that is made. In the examples `0:1` was accepted, and then `1:1`
 -- with the cause `0:1`.
-use Rattle.std.specs.Prelude.{◌≡◌, ◌<◌, ℕ, find, length, ◌&&◌, ◌==◌, max, if◌then◌else◌, List, [], ◌∷◌}
+use Rattle.std.specs.Prelude.{◌≡◌, ◌<◌, ℕ, true, false, find, length, ◌&&◌, ◌==◌, max, if◌then◌else◌, List, [], ◌∷◌}
 use Rattle.std.specs.Prelude.{Option, Some, None, is_some}
 use Rattle.std.specs.List.{slice_get}
 use Rattle.std.specs.Option.{option_map}
@@ -22,15 +22,16 @@ use Rattle.lr_base.specs.declared.messages.Message.TheVariants.{Update, Query, A
 use Rattle.lr_base.specs.declared.names.Cid.{Cid}
 use Rattle.lr_base.specs.declared.names.Config.{Config}
 use Rattle.lr_base.specs.declared.events.Step.{Step}
-use Rattle.lr_graph.specs.After.{after}
+use Rattle.lr_graph.specs.After.{after, received_at}
 use Rattle.lr_graph.specs.Closed.{Each, IsSetOf, IsSound, causes, IsDoneAt}
-use Rattle.lr_graph.specs.Graph.{Acceptance, Carried, Facts, LabelledCall, SentMessage, has_call, kept_spot}
-use Rattle.lr_graph.specs.Graph.{acks_of, is_within, ready}
+use Rattle.lr_graph.specs.Graph.{Acceptance, Carried, Facts, LabelledCall, SentMessage}
+use Rattle.lr_graph.specs.Graph.{is_within, ready}
 use Rattle.lr_graph.specs.Graph.{UpdateCopy, QueryCopy, AckCopy, DoneReply, AnswerReply, GossipOf}
-use Rattle.lr_graph.specs.Legal.{acked}
 use Rattle.lr_graph.specs.Names.{IsCounted}
 use Rattle.lr_graph.specs.Runs.{RunState, message_at}
 use Rattle.lr_graph.specs.Sets.{SpotSet}
+use Rattle.lr_graph.specs.Legal.{kept_at}
+use Rattle.lr_graph.specs.Pruned.{acked, is_known}
 
 -- the facts after a history
 -- for example: `first_facts` after no step
@@ -88,33 +89,38 @@ pub record IsCallIn {Value Op : Type 0} (config : Config) (w : Facts Op) (v : Ru
   pub op : d.op ≡ of.op
   pub label : StandsForSet config w v d.prev of.label
 
--- gossip counts what its sender received, its log has updates of acceptances, and it has the acknowledgements that the
--- sender had received
+-- gossip counts what its sender had received; each item that it has is one of these, and each of these that it lacks
+-- was received where it goes
 pub record IsGossipIn {Value Op : Type 0} (config : Config) (w : Facts Op) (v : RunState Value Op)
-    (names : SpotSet) (gossip : GossipRecord Op) : Type 0 where
+    (there names : SpotSet) (gossip : GossipRecord Op) : Type 0 where
   pub counted : IsCounted names gossip.rep_ts
-  pub updates : Each (IsUpdateIn config w v) gossip.updates
-  pub acks : gossip.acks ≡ acks_of (λ a. names a.spot) w.acks
+  pub updates : Each (λ u. IsUpdateIn config w v u × (names u.spot ≡ true)) gossip.updates
+  pub lacking : Each (λ a. names a.spot ≡ true → there a.spot ≡ false
+      → (u : LogUpdate Op) × IsAmong u gossip.updates × (u.spot ≡ a.spot)) w.accepted
+  pub acks : Each (λ a. IsAmong a w.acks × (names a.spot ≡ true)) gossip.acks
+  pub acks_lacking : Each (λ a. names a.spot ≡ true → there a.spot ≡ false → IsAmong a gossip.acks) w.acks
 
--- what a message of the run has is what this one of the facts carries: of the same call, with a stamp for its set
+-- what a message of the run has is what this one of the facts carries: of the same call, with a stamp for its set; of
+-- gossip, with what was received where it goes
 -- for example: the label of a copy of `0.2`
-abbrev pub CarriesStamp : {Value Op : Type 0} → Config → Facts Op → RunState Value Op → Carried Op → Message Op → Type 0
-CarriesStamp config w v (UpdateCopy c t) (Update d time) = IsCallIn config w v c d × (time ≡ t)
-CarriesStamp config w v (QueryCopy c) (Query d) = IsCallIn config w v c d
-CarriesStamp config w v (AckCopy cid t) (Ack other time) = (other ≡ cid) × (time ≡ t)
-CarriesStamp config w v (DoneReply cid names) (Done other spot stamp) =
+abbrev pub CarriesStamp : {Value Op : Type 0} → Config → Facts Op → RunState Value Op → SpotSet → Carried Op
+    → Message Op → Type 0
+CarriesStamp config w v there (UpdateCopy c t) (Update d time) = IsCallIn config w v c d × (time ≡ t)
+CarriesStamp config w v there (QueryCopy c) (Query d) = IsCallIn config w v c d
+CarriesStamp config w v there (AckCopy cid t) (Ack other time) = (other ≡ cid) × (time ≡ t)
+CarriesStamp config w v there (DoneReply cid names) (Done other spot stamp) =
     (other ≡ cid) × IsDoneAt w.accepted cid spot names × StandsForSet config w v stamp names
-CarriesStamp config w v (AnswerReply cid names) (Answer other text stamp) =
+CarriesStamp config w v there (AnswerReply cid names) (Answer other text stamp) =
     (other ≡ cid) × StandsForSet config w v stamp names
-CarriesStamp config w v (GossipOf names) (Gossip gossip) = IsGossipIn config w v names gossip
-CarriesStamp config w v _ _ = ⊥
+CarriesStamp config w v there (GossipOf names) (Gossip gossip) = IsGossipIn config w v there names gossip
+CarriesStamp config w v there _ _ = ⊥
 
 -- a message of the run is this one of the facts: it goes from the one to the other, and has what it carries
 pub record IsMessageIn {Value Op : Type 0} (config : Config) (w : Facts Op) (v : RunState Value Op)
     (x : SentMessage Op) (p : Posted Op) : Type 0 where
   pub from : p.from ≡ x.from
   pub to : p.to ≡ x.to
-  pub what : CarriesStamp config w v x.what p.message
+  pub what : CarriesStamp config w v (received_at w x.to) x.what p.message
 
 -- a held query is one that the facts hold there
 -- for example: `0.3` at `r2`
@@ -134,8 +140,8 @@ pub record IsKnownIn {Value Op : Type 0} (config : Config) (w : Facts Op) (v : R
   pub stamp : StandsForSet config w v known.stamp of.below
 
 -- what a replica received of each place is a prefix of its numbers, its clock is that of the facts, its stamps stand
--- for sets, it logs the acknowledgements that it received, and its table has just the calls of what is ready, each
--- once, at the spots that the facts keep of them
+-- for sets, its acknowledgements are those that it still logs, and its table has just the calls that it still knows,
+-- each once, at the spots that the facts keep of them
 -- for example: at `r1` `[0, 1, 0]` counts `1:1`, and nothing is ready
 pub record HasStamps {Value Op : Type 0} (config : Config) (w : Facts Op) (v : RunState Value Op)
     (i : ℕ) (replica : ReplicaState Value Op) : Type 0 where
@@ -146,10 +152,9 @@ pub record HasStamps {Value Op : Type 0} (config : Config) (w : Facts Op) (v : R
   pub acks : replica.causal.acks ≡ acked config w i
   pub held : Each (IsHeldIn config w v i) replica.causal.held
   pub by_call : AreByCall replica.causal.calls
-  pub executed : (cid : Cid) → is_some (known_of replica.causal.calls cid)
-      ≡ has_call w.accepted (ready w.accepted (w.received i)) cid
+  pub executed : (cid : Cid) → is_some (known_of replica.causal.calls cid) ≡ is_known config w i cid
   pub kept : (cid : Cid) → option_map (λ known. known.spot) (known_of replica.causal.calls cid)
-      ≡ kept_spot (w.kept i) cid
+      ≡ kept_at config w i cid
   pub known : (cid : Cid) (known : Known) → known_of replica.causal.calls cid ≡ Some known
       → IsKnownIn config w v cid known
 

@@ -74,13 +74,14 @@ pub record Kept : Type 0 where
   pub spot : Spot
 
 -- the facts of a history: acceptances, acknowledgements that were noted, and messages have the newest first, the rest
--- is by replica or by client
+-- is by replica or by client; `told i k` is what replica k told replica i that it had received
 -- for example: see `first_facts`
 pub record Facts (Op : Type 0) : Type 0 where
   pub accepted : List (Acceptance Op)
   pub acks : List LogAck
   pub messages : List (SentMessage Op)
   pub received : ℕ → SpotSet
+  pub told : ℕ → ℕ → SpotSet
   pub kept : ℕ → List Kept
   pub held : ℕ → List (LabelledCall Op)
   pub clock : ℕ → ℕ
@@ -93,6 +94,7 @@ first_facts = record {
   acks = [];
   messages = [];
   received = λ i. nothing;
+  told = λ i k. nothing;
   kept = λ i. [];
   held = λ i. [];
   clock = λ i. 0;
@@ -115,6 +117,11 @@ ready accepted received spot =
 abbrev pub below_of : {Op : Type 0} → List (Acceptance Op) → Spot → SpotSet
 below_of [] spot = nothing
 below_of (a ∷ older) spot = if same_spot spot a.spot then a.below else below_of older spot
+
+-- whether an acknowledgement of this call is in the set
+-- for example: that of `0.1` in `only 0:2`
+abbrev pub has_ack : List LogAck → SpotSet → Cid → Bool
+has_ack acks set cid = list_any (λ a. set a.spot && same_cid cid a.cid) acks
 
 -- whether an acceptance of this call is in the set
 -- for example: `0.1` in `only 0:1`

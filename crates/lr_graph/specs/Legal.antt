@@ -1,6 +1,6 @@
 -- To be believed: which outcomes an event may have, and which histories are legal.
-use Rattle.std.specs.Prelude.{◌≡◌, ◌^◌, ◌+◌, ℕ, suc, ◌==◌, nat_lt, max, Bool, true, false, ◌&&◌, not, if◌then◌else◌}
-use Rattle.std.specs.Prelude.{List, [], ◌∷◌, ◌++◌, find, length, map, Option, Some, None}
+use Rattle.std.specs.Prelude.{◌≡◌, ◌^◌, ℕ, suc, ◌==◌, nat_lt, max, Bool, true, false, ◌&&◌, not, if◌then◌else◌}
+use Rattle.std.specs.Prelude.{List, [], ◌∷◌, ◌++◌, filter, find, length, map, Option, Some, None}
 use Rattle.std.specs.Option.{option_map}
 use Rattle.lr_base.specs.Ascending.{same_cid}
 use Rattle.lr_base.specs.Config.{is_late}
@@ -17,7 +17,6 @@ use Rattle.lr_base.specs.declared.events.Refusal.TheVariants.{Settled, Unfinishe
 use Rattle.lr_base.specs.declared.events.Sent.TheVariants.{Update, Query, Ack, Done, Answer, Gossip}
 use Rattle.lr_base.specs.declared.events.StateLine.{StateLine}
 use Rattle.lr_base.specs.declared.events.Step.{Step}
-use Rattle.lr_base.specs.declared.messages.LogAck.{LogAck}
 use Rattle.lr_base.specs.declared.names.Actor.{Actor}
 use Rattle.lr_base.specs.declared.names.Actor.TheVariants.{Client, Replica}
 use Rattle.lr_base.specs.declared.names.Cid.{Cid}
@@ -26,34 +25,15 @@ use Rattle.lr_base.specs.declared.names.Spot.{Spot}
 use Rattle.lr_graph.specs.After.{after, delivery_of, event_read, handling, lines_read, next_call, stepping}
 use Rattle.lr_graph.specs.Graph.{Carried, Facts, LabelledCall, SentMessage, first_facts}
 use Rattle.lr_graph.specs.Graph.{UpdateCopy, QueryCopy, AckCopy, DoneReply, AnswerReply, GossipOf}
-use Rattle.lr_graph.specs.Graph.{acks_of, calls_of, counts, is_within, item_spots, kept_spot, least_spot, made}
+use Rattle.lr_graph.specs.Graph.{calls_of, counts, is_within, item_spots, kept_spot, least_spot, made}
 use Rattle.lr_graph.specs.Graph.{ready, size_of, spots_of, value}
-use Rattle.lr_graph.specs.Sets.{SpotSet, how_many}
+use Rattle.lr_graph.specs.Pruned.{acked, is_known, log_size, logged}
+use Rattle.lr_graph.specs.Sets.{SpotSet}
 
 -- the number of the next message
 -- for example: 3 after two messages
 abbrev pub next_number : {Op : Type 0} → Facts Op → ℕ
 next_number w = suc (length w.messages)
-
--- what a replica still logs: what it received and others may lack; a lone replica logs nothing
--- for example: nothing with `small`
-abbrev pub logged : {Op : Type 0} → Config → Facts Op → ℕ → SpotSet
-logged config w i spot = not (config.replicas == 1) && w.received i spot
-
--- whether a replica logs an acknowledgement: it received it
--- for example: that of `0.1` at `r0` after `note 0:2 0.1`
-abbrev pub is_acked : {Op : Type 0} → Config → Facts Op → ℕ → LogAck → Bool
-is_acked config w i a = w.received i a.spot
-
--- the acknowledgements that a replica logs, in the order of their spots
--- for example: that of `0.1` at `0:2`
-abbrev pub acked : {Op : Type 0} → Config → Facts Op → ℕ → List LogAck
-acked config w i = acks_of (is_acked config w i) w.acks
-
--- how many items a replica logs
--- for example: 0 with `small`
-abbrev pub log_size : {Op : Type 0} → Config → Facts Op → ℕ → ℕ
-log_size config w i = how_many (λ a. logged config w i a.spot) w.accepted + length (acked config w i)
 
 -- whether a replica may log one more item
 -- for example: true of 511 items, false of 512
@@ -74,6 +54,11 @@ next_spot w i = record { place = i; number = suc (made (item_spots w) i) }
 -- for example: `0:2` of `0.1`
 abbrev pub noted_at : {Op : Type 0} → Config → Facts Op → ℕ → Cid → Option Spot
 noted_at config w i cid = option_map (λ a. a.spot) (find (λ a. same_cid a.cid cid) (acked config w i))
+
+-- the spot that a replica keeps of a call that it still knows
+-- for example: `0:1` of `0.1`
+abbrev pub kept_at : {Op : Type 0} → Config → Facts Op → ℕ → Cid → Option Spot
+kept_at config w i cid = if is_known config w i cid then kept_spot (w.kept i) cid else None
 
 -- where a replica took a call before: at the spot that it keeps of the call, or else the least one that it logs
 -- for example: `0:1` for a second copy of `0.1`
@@ -173,7 +158,7 @@ take_line w i names = Take (size_of (item_spots w) (λ spot. names spot && not (
 abbrev pub copy_lines : {Op : Type 0} → Config → Facts Op → ℕ → LabelledCall Op → ℕ → Bool → List Outcome
 copy_lines config w i call time false = []
 copy_lines config w i call time true =
-    let taken = taken_at config w i call.cid (kept_spot (w.kept i) call.cid) in
+    let taken = taken_at config w i call.cid (kept_at config w i call.cid) in
     let late = is_late time config.delta (w.clock i) in
     update_lines config w i call.cid time late taken (noted_at config w i call.cid)
 
@@ -209,7 +194,7 @@ replica_line config w i = record {
   received = counts (item_spots w) (w.received i) (suc config.replicas);
   log = spots_of w.accepted (logged config w i);
   acks = map (λ a. a.spot) (acked config w i);
-  calls = calls_of w.accepted (ready w.accepted (w.received i));
+  calls = filter (is_known config w i) (calls_of w.accepted (ready w.accepted (w.received i)));
   held = map (λ call. call.cid) (w.held i);
   marks = [];
 }

@@ -1,6 +1,7 @@
 pub mod Sets
 pub mod Graph
 pub mod After
+pub mod Pruned
 pub mod Legal
 pub mod LegalFact
 pub mod Worked
@@ -18,3 +19,5 @@ pub mod Told
 pub mod Slow
 pub mod Promises
 pub mod Timed
+pub mod Spread
+pub mod Once

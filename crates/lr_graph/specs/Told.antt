@@ -82,17 +82,19 @@ received_in entries i = set_or_nothing (entry_at entries i)
 abbrev pub fronts_in : {Op : Type 0} → List (Entry (FrontNow Op)) → ℕ → FrontFacts Op
 fronts_in entries client = front_or_first (entry_at entries client)
 
--- facts without acknowledgements, clocks, and what replicas hold and keep
+-- facts without acknowledgements, clocks, what replicas told one another, and what they hold and keep
 abbrev pub bare : {Op : Type 0} → Facts Op → Facts Op
-bare w = record w { acks = []; kept = λ i. []; held = λ i. []; clock = λ i. 0 }
+bare w = record w { acks = []; told = λ i k. nothing; kept = λ i. []; held = λ i. []; clock = λ i. 0 }
 
--- the facts that are told: all but acknowledgements, clocks, and what replicas hold and keep
-abbrev pub told : {Op : Type 0} → Gathered Op → Facts Op
-told g = record {
+-- the facts that are gathered: all but acknowledgements, clocks, what replicas told one another, and what they hold and
+-- keep
+abbrev pub gathered_facts : {Op : Type 0} → Gathered Op → Facts Op
+gathered_facts g = record {
   accepted = map acceptance_of g.accepted;
   acks = [];
   messages = map sent_message_of g.messages;
   received = received_in g.received;
+  told = λ i k. nothing;
   kept = λ i. [];
   held = λ i. [];
   clock = λ i. 0;

@@ -1,11 +1,12 @@
--- Small histories with one replica and one client.
-use Rattle.std.specs.Prelude.{ℕ, ◌+◌, true, List, [], ◌∷◌, None, codes}
+-- Small histories with one client, and one replica or two.
+use Rattle.std.specs.Prelude.{ℕ, suc, ◌+◌, true, List, [], ◌∷◌, ◌++◌, None, codes}
 use Rattle.lr_base.specs.Meaning.{Meaning}
 use Rattle.lr_base.specs.declared.events.Event.{Event}
-use Rattle.lr_base.specs.declared.events.Event.TheVariants.{Call, Deliver, Show}
+use Rattle.lr_base.specs.declared.events.Event.TheVariants.{Ack as AckEvent, Call, Deliver, Gossip as GossipEvent}
+use Rattle.lr_base.specs.declared.events.Event.TheVariants.{Show, Tick}
 use Rattle.lr_base.specs.declared.events.Outcome.{Outcome}
-use Rattle.lr_base.specs.declared.events.Outcome.TheVariants.{Send, Accept, Got, State}
-use Rattle.lr_base.specs.declared.events.Sent.TheVariants.{Update, Query, Done, Answer}
+use Rattle.lr_base.specs.declared.events.Outcome.TheVariants.{Send, Accept, ClockAt, Got, Note, State, Take}
+use Rattle.lr_base.specs.declared.events.Sent.TheVariants.{Ack, Answer, Done, Gossip, Query, Update}
 use Rattle.lr_base.specs.declared.events.StateLine.{StateLine}
 use Rattle.lr_base.specs.declared.events.Step.{Step}
 use Rattle.lr_base.specs.declared.lr_service.Kind.TheVariants.{Forced}
@@ -94,4 +95,68 @@ abbrev pub forced_call : List Outcome → List (Step ℕ)
 forced_call printed =
     step (Call 0 0 5 3) (Send 1 (Client 0) (Replica 0) (Update first_call 5) ∷ [])
     ∷ step (Deliver 1) printed
+    ∷ []
+
+-- two replicas, one client, and a delta of 10
+abbrev pub pair : Config
+pair = record { replicas = 2; clients = 1; delta = 10 }
+
+-- the spot of the first call's acknowledgement, where `r0` notes it next
+-- for example: `0:2`
+abbrev pub ack_spot : Spot
+ack_spot = record { place = 0; number = 2 }
+
+-- what is printed of `r0`: its clock, its log, the acknowledgements and the calls that it keeps
+abbrev shown : ℕ → List Spot → List Spot → List Cid → Step TallyOp
+shown clock log acks calls =
+    let line = record after_both { clock = clock; received = 2 ∷ 0 ∷ 0 ∷ []; log = log; acks = acks; calls = calls } in
+    step (Show 0) (State line ∷ [])
+
+-- an addition at `r0`, whose client is told that it is done
+abbrev added : List (Step TallyOp)
+added =
+    step (Call 0 0 5 (Add (codes "x") 3)) (Send 1 (Client 0) (Replica 0) (Update first_call 5) ∷ [])
+    ∷ step (Deliver 1) (Accept first_spot first_call ∷ Send 2 (Replica 0) (Client 0) (Done first_call first_spot) ∷ [])
+    ∷ step (Deliver 2) (Got first_call ∷ [])
+    ∷ []
+
+-- the client acknowledges it with the reading 7, in this message, and `r0` notes that
+abbrev notes_ack : ℕ → List (Step TallyOp)
+notes_ack number =
+    step (AckEvent 0 0 7) (Send number (Client 0) (Replica 0) (Ack first_call 7) ∷ [])
+    ∷ step (Deliver number) (Note ack_spot first_call ∷ [])
+    ∷ []
+
+-- `r0` gossips so many items to `r1`, and `r1` to `r0`, from this message on
+abbrev gossips : ℕ → ℕ → List (Step TallyOp)
+gossips number items =
+    step (GossipEvent 0 1) (Send number (Replica 0) (Replica 1) Gossip ∷ [])
+    ∷ step (Deliver number) (Take items ∷ [])
+    ∷ step (GossipEvent 1 0) (Send (suc number) (Replica 1) (Replica 0) Gossip ∷ [])
+    ∷ step (Deliver (suc number)) (Take 0 ∷ [])
+    ∷ []
+
+-- an addition is acknowledged before `r1` has heard of it, and these calls are shown
+-- for example: legal with `0.1`, whose update `r0` logs; not without
+abbrev pub acknowledged : List Cid → List (Step TallyOp)
+acknowledged calls = added ++ notes_ack 3 ++ shown 0 (first_spot ∷ []) (ack_spot ∷ []) calls ∷ []
+
+-- an addition and its acknowledgement come to `r1`, and these calls are shown; then `r0` reads this clock, and these
+-- acknowledgements are shown
+-- for example: legal with no call, and at the reading 18 with no acknowledgement; at 17 that of `0.1` is still shown
+abbrev pub gossiped : List Cid → ℕ → List Spot → List (Step TallyOp)
+gossiped calls reading acks =
+    added ++ notes_ack 3 ++ gossips 4 2
+    ++ shown 0 [] (ack_spot ∷ []) calls
+    ∷ step (Tick 0 reading) (ClockAt reading ∷ [])
+    ∷ shown reading [] acks []
+    ∷ []
+
+-- the addition comes to `r1`, and is acknowledged only then; at the reading 18 these acknowledgements are shown
+-- for example: legal with that of `0.1`, which `r1` hasn't; not without
+abbrev pub gossiped_before : List Spot → List (Step TallyOp)
+gossiped_before acks =
+    added ++ gossips 3 1 ++ notes_ack 5
+    ++ step (Tick 0 18) (ClockAt 18 ∷ [])
+    ∷ shown 18 [] acks []
     ∷ []

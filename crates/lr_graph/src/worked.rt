@@ -8,8 +8,9 @@ ghost use Rattle.lr_base.specs.declared.names.Actor.TheVariants.{Client, Replica
 ghost use Rattle.lr_graph.specs.Graph.{below_of, ready};
 ghost use Rattle.lr_graph.specs.Legal.{IsLegal};
 ghost use Rattle.lr_graph.specs.Promises.{TakesAnswer, TakesDone, facts_of};
-ghost use Rattle.lr_graph.specs.Worked.{add_and_read, called_by, first_call, first_spot};
-ghost use Rattle.lr_graph.specs.Worked.{forced_call, forced_sum, second_call, shown_at_first, small};
+ghost use Rattle.lr_graph.specs.Worked.{ack_spot, acknowledged, add_and_read, called_by, first_call, first_spot};
+ghost use Rattle.lr_graph.specs.Worked.{forced_call, forced_sum, gossiped, gossiped_before, pair};
+ghost use Rattle.lr_graph.specs.Worked.{second_call, shown_at_first, small};
 
 /// A history of an addition, and of a read that sees it, is legal.
 pub fn an_addition_is_read()
@@ -51,4 +52,25 @@ pub fn a_forced_update_is_not_accepted()
     ensures sent { IsLegal forced_sum small (forced_call []) }
     ensures accepted { IsLegal forced_sum small (forced_call
         (Accept first_spot first_call ∷ Send 2 (Replica 0) (Client 0) (Done first_call first_spot) ∷ [])) → ⊥ }
+{}
+
+/// Of two replicas one that logs an acknowledged update still shows its call: the call leaves only with the update.
+pub fn a_call_stays_while_its_update_is_logged()
+    ensures stays { IsLegal tally pair (acknowledged (first_call ∷ [])) }
+    ensures leaves { IsLegal tally pair (acknowledged []) → ⊥ }
+{}
+
+/// Once the other has told that it has the update, the update and the call leave; and the acknowledgement, which the
+/// other has too, leaves at the first reading at which a copy of the call is late.
+pub fn a_call_leaves_once_all_have_its_update()
+    ensures leaves { IsLegal tally pair (gossiped [] 18 []) }
+    ensures in_time { IsLegal tally pair (gossiped [] 17 (ack_spot ∷ [])) }
+    ensures call { IsLegal tally pair (gossiped (first_call ∷ []) 18 []) → ⊥ }
+    ensures early { IsLegal tally pair (gossiped [] 17 []) → ⊥ }
+{}
+
+/// However late it is, the acknowledgement stays in the log while the other replica hasn't told that it has it.
+pub fn an_acknowledgement_stays_until_all_have_it()
+    ensures stays { IsLegal tally pair (gossiped_before (ack_spot ∷ [])) }
+    ensures leaves { IsLegal tally pair (gossiped_before []) → ⊥ }
 {}

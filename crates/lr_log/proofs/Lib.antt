@@ -4,5 +4,7 @@ mod RowLemmas
 mod CallLemmas
 mod Entries
 mod Finding
+mod Passing
+mod Floors
 mod Taking
 mod Logs

@@ -96,6 +96,13 @@ impl CallIndex {
         self.entries.retain(|entry| !is_new(rep_ts, entry.spot));
     }
 
+    /// Drops the entries of items that aren't new where so many were received of each place.
+    pub fn drop_known(&mut self, floor: &Stamp)
+        ensures { self.new ≡ filter (λ e. is_new_at floor.now e.spot) self.old }
+    {
+        self.entries.retain(|entry| is_new(floor, entry.spot));
+    }
+
     /// Drops all entries, and keeps their room.
     pub fn clear(&mut self)
         ensures { self.new ≡ [] }

@@ -6,7 +6,10 @@ mod log;
 mod placed;
 mod received;
 mod row;
+mod spent;
 mod spotted;
+mod table;
 
 pub use log::Log;
 pub use received::{is_new, part_or_zero};
+pub use table::Table;

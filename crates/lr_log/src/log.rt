@@ -1,16 +1,19 @@
 //! What a replica received and keeps: updates and acknowledgements.
 ghost use Rattle.std.specs.Prelude.{◌≡◌, ◌↔◌, ◌<◌, ◌+◌, not, IsTrue, IfOk, OnOk, OnErr};
 ghost use Rattle.std.specs.Prelude.{[], length, filter, find, map};
+ghost use Rattle.std.specs.List.{AllByRecursion};
 ghost use Rattle.std.specs.Option.{option_map, option_copied};
 ghost use Rattle.lr_base.specs.Ascending.{same_cid};
 ghost use Rattle.lr_base.specs.Limits.{log_room};
 ghost use Rattle.lr_base.specs.Places.{items_at};
-ghost use Rattle.lr_base.specs.Rules.{is_new as is_new_at};
+ghost use Rattle.lr_base.specs.Rules.{is_new as is_new_at, is_spent, new_acks, new_updates, unknown_updates};
 ghost use Rattle.lr_base.specs.Rules.{insert_ack, insert_acks as all_acks_inserted};
 ghost use Rattle.lr_base.specs.Rules.{insert_update, insert_updates as all_updates_inserted};
 ghost use Rattle.lr_log.specs.Items.{CanTake, IsFree, IsOrdered, Items, item_count, items_of};
 
 use crate::placed::Placed;
+use crate::spent::Spent;
+use crate::table::Table;
 use lr_base::lr_service::Operation;
 use lr_base::{Cid, LOG_ROOM, LogAck, LogUpdate, NoMemory, Places, Rows, Spot, Stamp};
 use std::alloc::Global;
@@ -57,8 +60,15 @@ impl<O: Drop> Log<O> {
         self.updates.allocator()
     }
 
+    /// A number that is above the place of each acknowledgement.
+    pub fn ack_places(&self) -> usize
+        ensures { AllByRecursion (λ a. a.spot.place < result) self.now.acks }
+    {
+        self.acks.places()
+    }
+
     /// The acknowledgements of one place, in the order of their numbers.
-    pub fn acks_of(&self, place: u8) -> &[LogAck]
+    pub fn acks_of(&self, place: usize) -> &[LogAck]
         ensures { result.now ≡ items_at (λ a. a.spot) place self.now.acks }
     {
         self.acks.at_place(place)
@@ -83,6 +93,14 @@ impl<O: Drop> Log<O> {
         ensures { IfOk result (λ copied. copied ≡ self.now.acks) }
     {
         self.acks.copy_items()
+    }
+
+    /// Copies of the logged acknowledgements that are new where so many were received of each place, in the order of
+    /// their spots.
+    pub fn copy_new_acks(&self, theirs: &Stamp) -> Result<Rows<LogAck>, NoMemory>
+        ensures { IfOk result (λ copied. copied ≡ new_acks theirs.now self.now.acks) }
+    {
+        self.acks.copy_new(theirs)
     }
 
     /// How many items are logged.
@@ -143,11 +161,30 @@ impl<O: Drop> Log<O> {
         Ok(())
     }
 
-    /// Drops every update. It takes no memory.
-    pub fn clear_updates(&mut self)
-        ensures { self.new ≡ record self.old { updates = [] } }
+    /// Drops the updates that each replica has, by what it told. It takes no memory, and where there are none it looks at
+    /// one update a place.
+    pub fn retain_unknown(&mut self, table: &Table)
+        ensures { self.new ≡ record self.old { updates = unknown_updates table.now.rows self.old.updates } }
     {
-        self.updates.clear();
+        let floor = table.floor();
+        self.updates.drop_known(&floor);
+    }
+
+    /// Drops the acknowledgements that are of no use any more: each replica has them, by what it told, they are late, and
+    /// no update of their call is logged. It takes no memory.
+    pub fn drop_acks(&mut self, table: &Table, clock: u64, delta: u64)
+        ensures { self.new ≡ record self.old {
+          acks = filter (λ a. not (is_spent delta clock table.now.rows self.old.updates a)) self.old.acks;
+        } }
+    {
+        let floor = table.floor();
+        let spent = Spent {
+            floor: &floor,
+            clock,
+            delta,
+            updates: &self.updates,
+        };
+        self.acks.drop_that(&spent);
     }
 
     /// Drops the items that are new where so many were received of each place. It takes no memory.
@@ -177,6 +214,13 @@ impl<O: Operation> Log<O> {
         self.updates.copy_items()
     }
 
+    /// Copies of the logged updates that are new where so many were received of each place, in the order of their spots.
+    pub fn copy_new_updates(&self, theirs: &Stamp) -> Result<Rows<LogUpdate<O>>, NoMemory>
+        ensures { IfOk result (λ copied. copied ≡ new_updates theirs.now self.now.updates) }
+    {
+        self.updates.copy_new(theirs)
+    }
+
     /// Logs these items, or none of them. The log isn't copied, and where there are no items it takes no memory.
     pub fn add_all(&mut self, updates: &[&LogUpdate<O>], acks: &[LogAck]) -> Result<(), NoMemory>
         requires ordered { IsOrdered (items_of (map (λ u. u.now) updates.now) acks.now) }
@@ -204,6 +248,10 @@ impl<O: Drop> Places<O> for Log<O> {
     ghost updates = { λ log. log.updates };
 
     fn updates_of(&self, place: u8) -> &[LogUpdate<O>] {
-        self.updates.at_place(place)
+        self.updates.at_place(place as usize)
+    }
+
+    fn has_update(&self, cid: Cid) -> bool {
+        self.updates.has(cid)
     }
 }

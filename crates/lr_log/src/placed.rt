@@ -1,7 +1,8 @@
 //! Items that are kept place by place.
-ghost use Rattle.std.specs.Prelude.{◌≡◌, ◌<◌, ◌≤◌, ◌^◌, List, [], not, filter, find, map, take, length};
+ghost use Rattle.std.specs.Prelude.{◌≡◌, ◌<◌, ◌≤◌, ◌^◌, false, true, List, [], not, filter, find, map, take, length};
 ghost use Rattle.std.specs.Prelude.{OnOk, OnErr, IfOk};
-ghost use Rattle.std.specs.Option.{option_copied};
+ghost use Rattle.std.specs.Option.{option_copied, option_map};
+ghost use Rattle.std.specs.List.{AllByRecursion, list_any};
 ghost use Rattle.lr_base.specs.Ascending.{same_cid};
 ghost use Rattle.lr_base.specs.Places.{AreInOrder, items_at};
 ghost use Rattle.lr_base.specs.Rules.{is_new as is_new_at};
@@ -10,6 +11,7 @@ ghost use Rattle.lr_log.specs.Rows.{AreFree, AreRows, insert_item, insert_items,
 
 use crate::calls::{CallIndex, CallSpot};
 use crate::row::Row;
+use crate::spent::Test;
 use crate::spotted::{AtSpot, Copied, Lends};
 use lr_base::{Cid, NoMemory, Rows, Spot, Stamp};
 use std::alloc::Global;
@@ -68,13 +70,19 @@ impl<T: AtSpot> Placed<T> {
         self.index.len()
     }
 
+    /// A number that is above each item's place.
+    pub fn places(&self) -> usize
+        ensures { AllByRecursion (λ x. (T.spot_of x).place < result) self.now }
+    {
+        self.rows.len()
+    }
+
     /// The items of a place.
-    pub fn at_place(&self, place: u8) -> &[T]
+    pub fn at_place(&self, place: usize) -> &[T]
         ensures { result.now ≡ items_at T.spot_of place self.now }
     {
-        let at = place as usize;
-        if at < self.rows.len() {
-            return self.rows[at].as_slice();
+        if place < self.rows.len() {
+            return self.rows[place].as_slice();
         }
         &[]
     }
@@ -89,6 +97,13 @@ impl<T: AtSpot> Placed<T> {
             return self.rows[place].at(spot);
         }
         None
+    }
+
+    /// Whether there is an item of a call.
+    pub fn has(&self, cid: Cid) -> bool
+        ensures { result ≡ list_any (λ x. same_cid (T.cid_of x) cid) self.now }
+    {
+        self.first_of(cid).is_some()
     }
 
     /// Puts an item at its place in the order of spots.
@@ -123,6 +138,27 @@ impl<T: AtSpot> Placed<T> {
     {
         drop_new_of(&mut self.rows, rep_ts);
         self.index.drop_new(rep_ts);
+    }
+
+    /// Drops the items that pass a test. Where none does, it only looks at them.
+    pub fn drop_that<P: Test<T>>(&mut self, test: &P)
+        ensures { self.new ≡ filter (λ x. not (P.passes test.now x)) self.old }
+    {
+        while let Some(spot) = first_that(self.rows.as_slice(), test) {
+            self.remove(spot);
+        }
+    }
+
+    /// Drops the items that aren't new where so many were received of each place: those at the front of each row. Where
+    /// there are none, it looks at one item a place.
+    pub fn drop_known(&mut self, floor: &Stamp)
+        ensures { self.new ≡ filter (λ x. is_new_at floor.now (T.spot_of x)) self.old }
+    {
+        if !has_known(self.rows.as_slice(), floor) {
+            return;
+        }
+        drop_known_of(&mut self.rows, floor);
+        self.index.drop_known(floor);
     }
 
     /// Drops all items, and keeps their room.
@@ -162,6 +198,17 @@ impl<T: Copied> Placed<T> {
         let mut items = Rows::new(self.allocator());
         for row in &self.rows {
             row.list_items(&mut items)?;
+        }
+        Ok(items)
+    }
+
+    /// Copies of the items that are new where so many were received of each place, in their order.
+    pub fn copy_new(&self, theirs: &Stamp) -> Result<Rows<T>, NoMemory>
+        ensures { IfOk result (λ items. items ≡ filter (λ x. is_new_at theirs.now (T.spot_of x)) self.now) }
+    {
+        let mut items = Rows::new(self.allocator());
+        for row in &self.rows {
+            row.list_new(theirs, &mut items)?;
         }
         Ok(items)
     }
@@ -250,6 +297,39 @@ fn drop_new_of<T: AtSpot>(rows: &mut Vec<Row<T>>, rep_ts: &Stamp)
 {
     for row in rows.iter_mut() {
         row.drop_new(rep_ts);
+    }
+}
+
+// The spot of the first item that passes a test.
+fn first_that<T: AtSpot, P: Test<T>>(rows: &[Row<T>], test: &P) -> Option<Spot>
+    ensures { result ≡ option_map T.spot_of (find (P.passes test.now) (together rows.now)) }
+{
+    for row in rows {
+        if let Some(spot) = row.first_that(test) {
+            return Some(spot);
+        }
+    }
+    None
+}
+
+// Whether a row begins with an item that isn't new where so many were received of each place.
+fn has_known<T: AtSpot>(rows: &[Row<T>], floor: &Stamp) -> bool
+    requires { AreRows T.spot_of 0 rows.now }
+    ensures { result ≡ false → AllByRecursion (λ x. is_new_at floor.now (T.spot_of x) ≡ true) (together rows.now) }
+{
+    for row in rows {
+        if row.begins_known(floor) {
+            return true;
+        }
+    }
+    false
+}
+
+fn drop_known_of<T: AtSpot>(rows: &mut Vec<Row<T>>, floor: &Stamp)
+    ensures { rows.new.items ≡ map (λ row. filter (λ x. is_new_at floor.now (T.spot_of x)) row) rows.old.items }
+{
+    for row in rows.iter_mut() {
+        row.drop_known(floor);
     }
 }
 

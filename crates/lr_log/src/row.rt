@@ -1,14 +1,16 @@
 //! The items of one place.
-ghost use Rattle.std.specs.Prelude.{◌≡◌, ◌≤◌, ◌++◌, [], not, filter, find, map, length, false, true, OnOk, OnErr, IfOk};
+ghost use Rattle.std.specs.Prelude.{ℕ, ◌≡◌, ◌≤◌, ◌++◌, [], not, filter, find, map, length, false, true, OnOk, OnErr, IfOk};
 ghost use Rattle.std.specs.List.Sorted.{IsPartitionPoint};
-ghost use Rattle.std.specs.Option.{option_copied};
+ghost use Rattle.std.specs.Option.{option_copied, option_map};
 ghost use Rattle.lr_base.specs.Ascending.{is_before as spot_is_before};
 ghost use Rattle.lr_base.specs.Places.{AreInOrder};
 ghost use Rattle.lr_base.specs.Rules.{is_new as is_new_at};
 ghost use Rattle.lr_log.specs.Items.{NoneAt};
-ghost use Rattle.lr_log.specs.Rows.{insert_item, same_spot};
+ghost use Rattle.lr_log.specs.Rows.{IsRow, insert_item, same_spot};
+ghost use Rattle.std.specs.List.{AllByRecursion};
 
 use crate::received::is_new;
+use crate::spent::Test;
 use crate::spotted::{AtSpot, Copied};
 use lr_base::{NoMemory, Rows, Spot, Stamp};
 use std::alloc::Global;
@@ -74,6 +76,37 @@ impl<T: AtSpot> Row<T> {
         self.items.retain(|item| !is_new(rep_ts, item.spot()));
     }
 
+    /// The spot of the first item that passes a test.
+    pub fn first_that<P: Test<T>>(&self, test: &P) -> Option<Spot>
+        ensures { result ≡ option_map T.spot_of (find (P.passes test.now) self.now) }
+    {
+        for item in self.as_slice() {
+            if test.passes(item) {
+                return Some(item.spot());
+            }
+        }
+        None
+    }
+
+    /// Drops the items that aren't new where so many were received of each place.
+    pub fn drop_known(&mut self, floor: &Stamp)
+        ensures { self.new ≡ filter (λ x. is_new_at floor.now (T.spot_of x)) self.old }
+    {
+        self.items.retain(|item| is_new(floor, item.spot()));
+    }
+
+    /// Whether the first item isn't new where so many were received of each place. Where it is, all are.
+    pub fn begins_known(&self, floor: &Stamp) -> bool
+        requires { (place : ℕ) × IsRow T.spot_of place self.now }
+        ensures { result ≡ false → AllByRecursion (λ x. is_new_at floor.now (T.spot_of x) ≡ true) self.now }
+    {
+        let items = self.items.as_slice();
+        if items.is_empty() {
+            return false;
+        }
+        !is_new(floor, items[0].spot())
+    }
+
     /// Drops all items, and keeps their room.
     pub fn clear(&mut self)
         ensures { self.new ≡ [] }
@@ -126,6 +159,19 @@ impl<T: Copied> Row<T> {
     {
         for item in self.as_slice() {
             items.push(item.copied()?)?;
+        }
+        Ok(())
+    }
+
+    /// Adds copies of the items behind others that are new where so many were received of each place.
+    pub fn list_new(&self, theirs: &Stamp, items: &mut Rows<T>) -> Result<(), NoMemory>
+        ensures { OnOk result (items.new
+            ≡ items.old ++ filter (λ x. is_new_at theirs.now (T.spot_of x)) self.now) }
+    {
+        for item in self.as_slice() {
+            if is_new(theirs, item.spot()) {
+                items.push(item.copied()?)?;
+            }
         }
         Ok(())
     }

@@ -1,7 +1,7 @@
 //! The calls of a log, with lists worked out by hand.
 use crate::taking::{add_ack, add_update, take};
 use lr_base::lr_service::Service;
-use lr_base::{Cid, LOG_ROOM, LogAck, LogUpdate, Places, Spot, Stamp};
+use lr_base::{Cid, LAST_NUMBER, LOG_ROOM, LogAck, LogUpdate, Places, Spot, Stamp};
 use lr_log::Log;
 use std::alloc::Global;
 use std::process::Abort;
@@ -139,6 +139,7 @@ fn new_items_are_dropped(rt: HostRuntime) -> Result<(), Fail> {
     // Of each place so many were received: the updates (0, 3) and (1, 1) and no acknowledgement.
     for (place, number) in [(0, 8), (1, 1)] {
         assert!(rt; place < rep_ts.parts());
+        assert!(rt; number <= LAST_NUMBER);
         rep_ts.set_part(place, number);
     }
     log.drop_new(&rep_ts);

@@ -3,7 +3,7 @@ ghost use Rattle.std.specs.Prelude.{◌<◌};
 
 use crate::taking::{add_ack, add_update, is_free, take};
 use lr_base::lr_service::Service;
-use lr_base::{Cid, LogAck, LogUpdate, Places, Spot, Stamp};
+use lr_base::{Cid, LAST_NUMBER, LogAck, LogUpdate, Places, Spot, Stamp};
 use lr_log::Log;
 use rand_core::utils::NextWord;
 use rand_pcg::Pcg32;
@@ -152,6 +152,7 @@ fn step_dropping(
     for place in 0..9 {
         let number = draw(source, NUMBERS) + 10;
         assert!(rt; place < rep_ts.parts());
+        assert!(rt; number <= LAST_NUMBER);
         rep_ts.set_part(place, number);
         items.retain(|item| item.spot.place != place || item.spot.number <= number);
     }

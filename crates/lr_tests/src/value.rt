@@ -7,7 +7,7 @@ ghost use Rattle.lr_base.specs.Places.{AreInOrder, items_at};
 ghost use Rattle.lr_tests.specs.Sample.{AreSample};
 
 use lr_base::lr_service::{Kind, Operation, Service};
-use lr_base::{Cid, Executed, Known, LogUpdate, NoMemory, Places, Spot, Stamp, Text};
+use lr_base::{Cid, Executed, Known, LAST_NUMBER, LogUpdate, NoMemory, Places, Spot, Stamp, Text};
 use lr_value::{Older, Value};
 use std::alloc::Global;
 use std::marker::Model;
@@ -65,7 +65,9 @@ fn stamp(rt: &impl Abort, parts: [u64; 4]) -> Stamp {
     let mut stamp = Stamp::zero(4);
     for place in 0..4 {
         assert!(rt; place < stamp.parts());
-        stamp.set_part(place, parts[place as usize]);
+        let number = parts[place as usize];
+        assert!(rt; number <= LAST_NUMBER);
+        stamp.set_part(place, number);
     }
     stamp
 }
@@ -233,6 +235,7 @@ fn update(
     let cid = Cid { client: 0, seq };
     assert!(rt; prev.parts() == 4);
     assert!(rt; spot.place < 4);
+    assert!(rt; spot.number <= LAST_NUMBER);
     match Tally::kind(&op) {
         Kind::Query => Err("not an update")?,
         Kind::Causal | Kind::Forced | Kind::Immediate => Ok(LogUpdate {

@@ -27,7 +27,7 @@ module _ {Op : Type 0} (kind_of : Op → Kind) (parts : ℕ) where
   pub AllFit-logged : (most : ℕ) (updates same : List (LogUpdate Op)) → same ≡ updates → most ≡ parts
       → AllLogged kind_of parts updates → AllFit most same
   AllFit-logged most updates same is long all =
-      rw (is, long) (λ k u e. record { prev = (all k u e).prev; place = (all k u e).place })
+      rw (is, long) (λ k u e. record { prev = (all k u e).prev; place = (all k u e).place; number = (all k u e).number })
 
   -- such updates under another name
   pub AllLogged-along : (count : ℕ) (updates same : List (LogUpdate Op)) → same ≡ updates → count ≡ parts

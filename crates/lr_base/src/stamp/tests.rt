@@ -1,16 +1,20 @@
 //! The calls of a stamp, on parts worked out by hand.
 ghost use Rattle.std.specs.Prelude.{◌≡◌, length};
 
+use crate::limits::LAST_NUMBER;
 use crate::stamp::Stamp;
+use std::process::Abort;
 
 // A stamp of three parts.
-fn of(parts: [u64; 3]) -> Stamp
+fn of(rt: &impl Abort, parts: [u64; 3]) -> Stamp
     ensures { length result ≡ 3 }
 {
     let mut stamp = Stamp::zero(3);
-    stamp.set_part(0, parts[0]);
-    stamp.set_part(1, parts[1]);
-    stamp.set_part(2, parts[2]);
+    let [first, second, third] = parts;
+    assert!(rt; first.max(second).max(third) <= LAST_NUMBER);
+    stamp.set_part(0, first);
+    stamp.set_part(1, second);
+    stamp.set_part(2, third);
     stamp
 }
 
@@ -31,8 +35,8 @@ fn pairs_of_stamps(rt: HostRuntime) {
         ([7, 8, 9], [7, 7, 9], [7, 8, 9], false, true),
     ];
     for (first, second, joined, below, above) in pairs {
-        let mut own = of(first);
-        let other = of(second);
+        let mut own = of(&rt, first);
+        let other = of(&rt, second);
         assert_eq!(rt; own.le(&other), below, "{first:?} and {second:?}");
         assert_eq!(rt; other.le(&own), above, "{second:?} and {first:?}");
         own.join(&other);
@@ -48,9 +52,9 @@ fn parts_and_copies(rt: HostRuntime) {
         assert_eq!(rt; zero.parts(), parts);
         assert_eq!(rt; zero.part(parts - 1), 0);
     }
-    let mut stamp = of([1, 0, 2]);
+    let mut stamp = of(&rt, [1, 0, 2]);
     let copied = stamp.copy();
-    stamp.set_part(1, u64::MAX);
-    assert_eq!(rt; parts_of(&stamp), [1, u64::MAX, 2]);
+    stamp.set_part(1, LAST_NUMBER);
+    assert_eq!(rt; parts_of(&stamp), [1, LAST_NUMBER, 2]);
     assert_eq!(rt; parts_of(&copied), [1, 0, 2]);
 }

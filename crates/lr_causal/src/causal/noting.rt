@@ -43,7 +43,8 @@ impl<S: Service> Causal<S> {
         if !self.log.has_room() {
             return Ok(AckEnd::FullLog);
         }
-        let number = self.rep_ts.part(self.me);
+        let mut own = self.table.own().copy();
+        let number = own.part(self.me);
         if number >= LAST_NUMBER {
             return Ok(AckEnd::Worn);
         }
@@ -54,7 +55,8 @@ impl<S: Service> Causal<S> {
         let Ok(()) = self.log.add_ack(LogAck { spot, cid, time }) else {
             return Err(NoMemory);
         };
-        self.rep_ts.set_part(self.me, spot.number);
+        own.set_part(self.me, spot.number);
+        self.table.put_own(own);
         Ok(AckEnd::Noted(spot))
     }
 

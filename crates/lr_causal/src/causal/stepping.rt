@@ -2,7 +2,7 @@
 
 use crate::applying::apply_ready;
 use crate::causal::Causal;
-use crate::heard::{put_row, row_of};
+use crate::forgetting::forget_done;
 use crate::savepoint::{Savepoint, put_back};
 use lr_base::NoMemory;
 use lr_base::lr_service::Service;
@@ -16,7 +16,7 @@ impl<S: Service> Causal<S> {
     /// Applies all that is ready, and drops what is known everywhere.
     pub fn settle(&mut self) -> Result<(), NoMemory>
         ensures ok { let ready = applied S.meaning (state_of self.old) in
-            OnOk result (state_of self.new ≡ pruned (config_of self.old).replicas ready) }
+            OnOk result (state_of self.new ≡ pruned (config_of self.old).delta ready) }
         ensures err { OnErr result (state_of self.new ≡ state_of self.old) }
         ensures same { IsSame (replica_of self.old) (replica_of self.new) }
     {
@@ -31,15 +31,17 @@ impl<S: Service> Causal<S> {
     /// replicas were heard to have received the one row of `heard`. It takes no memory.
     pub fn save(&self, heard: u8) -> Savepoint<S>
         requires { heard < (config_of self.now).replicas }
-        ensures point { IsPointOf result (state_of self.now) (state_of self.now) }
+        ensures point { IsPointOf result (replica_of self.now) (state_of self.now) }
         ensures heard { result.heard ≡ heard }
     {
+        self.table.keeps();
         Savepoint {
+            me: self.me,
             clock: self.clock,
-            rep_ts: self.rep_ts.copy(),
+            rep_ts: self.table.own().copy(),
             top: self.top,
             heard,
-            row: row_of(self.table.as_slice(), heard),
+            row: self.table.row(heard).copy(),
             entered: Vec::new(self.log.allocator()),
             held: self.held.len(),
             applied: None,
@@ -53,14 +55,14 @@ impl<S: Service> Causal<S> {
         // what stays, and can be undone
         ensures err { OnErr result (state_of self.new ≡ state_of self.old) }
         ensures err_point { OnErr result (point.new ≡ point.old) }
-        ensures point { (before : CausalState S S.Op) → IsPointOf point.old (state_of self.old) before
-            → IsPointOf point.new (state_of self.new) before }
+        ensures point { (before : CausalState S S.Op) → IsPointOf point.old (replica_of self.old) before
+            → IsPointOf point.new (replica_of self.new) before }
         ensures same { IsSame (replica_of self.old) (replica_of self.new) }
     {
         let Ok(older) = apply_ready(
             &mut self.value,
             &self.log,
-            &self.rep_ts,
+            self.table.own(),
             &mut self.calls,
             &mut point.entered,
         ) else {
@@ -76,7 +78,7 @@ impl<S: Service> Causal<S> {
     /// Ends what the savepoint might have undone: where it has the value of before, that is kept, to be caught up when
     /// something is applied next. It takes no memory.
     pub fn close(&mut self, point: Savepoint<S>)
-        requires { (before : CausalState S S.Op) × IsPointOf point (state_of self.old) before }
+        requires { (before : CausalState S S.Op) × IsPointOf point (replica_of self.old) before }
         ensures state { state_of self.new ≡ state_of self.old }
         ensures same { IsSame (replica_of self.old) (replica_of self.new) }
     {
@@ -86,21 +88,22 @@ impl<S: Service> Causal<S> {
         }
     }
 
-    /// Drops what is known everywhere. It takes no memory, and no savepoint undoes it.
+    /// Drops what is of no use any more: updates that each replica has, then calls that are done, then acknowledgements
+    /// that each replica has and that are late. It takes no memory, and no savepoint undoes it.
     pub fn prune(&mut self)
-        ensures state { state_of self.new ≡ pruned (config_of self.old).replicas (state_of self.old) }
+        ensures state { state_of self.new ≡ pruned (config_of self.old).delta (state_of self.old) }
         ensures same { IsSame (replica_of self.old) (replica_of self.new) }
     {
-        if self.config.replicas == 1 {
-            self.log.clear_updates();
-        }
+        self.log.retain_unknown(&self.table);
+        forget_done(&mut self.calls, &self.log);
+        self.log.drop_acks(&self.table, self.clock, self.config.delta);
     }
 
     /// Gives back the state in which the savepoint was made, where only `accept`, `ack`, `tick`, `take_gossip` of the
     /// replica whose row it has, `hold` and `apply` have changed it since. It takes no memory.
     pub fn restore(&mut self, point: Savepoint<S>)
-        requires { HasShapeOf point (state_of self.old) }
-        ensures state { (before : CausalState S S.Op) → IsPointOf point (state_of self.old) before
+        requires { HasShapeOf point (replica_of self.old) }
+        ensures state { (before : CausalState S S.Op) → IsPointOf point (replica_of self.old) before
             → state_of self.new ≡ before }
         ensures same { IsSame (replica_of self.old) (replica_of self.new) }
     {
@@ -109,9 +112,9 @@ impl<S: Service> Causal<S> {
         self.held.truncate(point.held);
         put_back(&mut self.value, point.applied);
         self.clock = point.clock;
-        self.rep_ts = point.rep_ts;
         self.top = point.top;
         self.all_wait = false;
-        put_row(&mut self.table, point.heard, point.row);
+        self.table.put(point.heard, point.row);
+        self.table.put_own(point.rep_ts);
     }
 }

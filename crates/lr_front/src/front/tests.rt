@@ -117,20 +117,25 @@ fn taken(taken: Taken) -> Answered {
     }
 }
 
-// A stamp of these parts.
-fn stamp_of(parts: [u64; 4]) -> Stamp {
+// A stamp of these parts, unless one is above the last number.
+fn stamp_of(parts: [u64; 4]) -> Option<Stamp> {
     let [first, second, third, order] = parts;
+    if first.max(second).max(third).max(order) > LAST_NUMBER {
+        return None;
+    }
     let mut stamp = Stamp::none();
     stamp.push(first);
     stamp.push(second);
     stamp.push(third);
     stamp.push(order);
-    stamp
+    Some(stamp)
 }
 
 // The reply to an update comes, with a stamp of these parts.
 fn done(front: &mut Front<Numbered>, seq: u64, parts: [u64; 4]) -> Answered {
-    let stamp = stamp_of(parts);
+    let Some(stamp) = stamp_of(parts) else {
+        return Answered::NoReply;
+    };
     front.keeps();
     if stamp.parts() != front.label.parts() {
         return Answered::NoReply;
@@ -147,7 +152,9 @@ fn done(front: &mut Front<Numbered>, seq: u64, parts: [u64; 4]) -> Answered {
 
 // The same, but the step is undone.
 fn done_undone(front: &mut Front<Numbered>, seq: u64, parts: [u64; 4]) -> Answered {
-    let stamp = stamp_of(parts);
+    let Some(stamp) = stamp_of(parts) else {
+        return Answered::NoReply;
+    };
     front.keeps();
     if stamp.parts() != front.label.parts() {
         return Answered::NoReply;

@@ -1,5 +1,5 @@
 -- Applying all that is ready: the value, its stamp and the table are those of the ready set.
-use Rattle.std.proofs.Common.{◌≡◌, ℕ, zero, suc, ◌≤◌, Bool, true, false, not, inl, inr, List, [], ◌∷◌, length, Option, Some, None, is_some, refl, sym, ap, ◌∙◌, true≢false, arith}
+use Rattle.std.proofs.Common.{◌≡◌, ℕ, zero, suc, ◌≤◌, Bool, true, false, not, ◌&&◌, inl, inr, List, [], ◌∷◌, length, Option, Some, None, is_some, refl, sym, ap, ◌∙◌, true≢false, arith}
 use Rattle.std.specs.Option.{option_map, option_map_or, option_or}
 use Rattle.lr_base.specs.Meaning.{Encoding, Lawful, Meaning}
 use Rattle.lr_base.specs.Orders.{IsAmong}
@@ -19,7 +19,7 @@ use Rattle.lr_graph.proofs.Lists.Members.{among-filter, each-at, each-from, each
 use Rattle.lr_graph.proofs.Sets.ReadySets.{apart-same, names-same, ready-holds, ready-received}
 use Rattle.lr_graph.proofs.Applying.SettlingSteps.{IsTableSoFar, IsWaiting, Settling, applicable-ready, below-ready, names-within, settling-step}
 use Rattle.lr_graph.proofs.Applying.Taking.{ascending-filter, take_ready-none, take_ready-some}
-use Rattle.lr_graph.proofs.Lists.Tests.{and-left, never, not-false, same-test}
+use Rattle.lr_graph.proofs.Lists.Tests.{and-left, and-right, and-true, never, not-false, same-test}
 use Rattle.lr_graph.proofs.Related.Ties.{HasApplied, HasOneCall, HasUpdateAt, IsFree, IsPending, IsTableOf, IsUpdateOf}
 use Rattle.lr_graph.proofs.Sets.Values.{Commute, has_call-same, has_call-wider, value-same}
 
@@ -61,38 +61,44 @@ all-applied {Op} l r done sound todo val_ts applied named w none s h =
                 w.held c (ap applied (sym b.2) ∙ each-at _ b.0 k rest b.1 b_ready)
 
 -- all that is ready is applied
-pub record IsSettled {Value Op : Type 0} (m : Meaning Value Op) (l : List (Acceptance Op)) (r : SpotSet) (kept : List Kept) (p : Progress Value) : Type 0 where
+pub record IsSettled {Value Op : Type 0} (m : Meaning Value Op) (l : List (Acceptance Op)) (r : SpotSet) (left : Cid → Bool) (kept : List Kept) (p : Progress Value) : Type 0 where
   pub names : Names p.val_ts (ready l r)
   pub value_is : p.value ≡ value m l (ready l r)
-  pub table : IsTableOf l (ready l r) (keep_new l (ready l r) l kept) p.calls
+  pub table : IsTableOf l (ready l r) left (keep_new l (ready l r) l kept) p.calls
 
 -- the table at the end is that of the ready set
-table-end : {Op : Type 0} (l : List (Acceptance Op)) (r done applied : SpotSet) (kept : List Kept) (calls : List (Cid × Known))
-    → ((cid : Cid) → has_call l done cid ≡ false → kept_spot kept cid ≡ None)
-    → IsTableSoFar l r applied kept calls → ((s : Spot) → done s ≡ true → applied s ≡ true) → ((s : Spot) → applied s ≡ ready l r s) → IsTableOf l (ready l r) (keep_new l (ready l r) l kept) calls
-table-end l r done applied kept calls unkept t still same = record {
-  spots = λ cid. by_known cid (known_of calls cid) refl ∙ sym (keep_new-is l (ready l r) kept cid);
+table-end : {Op : Type 0} (l : List (Acceptance Op)) (r done applied : SpotSet) (left : Cid → Bool) (kept : List Kept) (calls : List (Cid × Known))
+    → ((cid : Cid) → left cid ≡ false → has_call l done cid ≡ false → kept_spot kept cid ≡ None) → ((cid : Cid) → left cid ≡ true → has_call l done cid ≡ true)
+    → IsTableSoFar l r applied left kept calls → ((s : Spot) → done s ≡ true → applied s ≡ true) → ((s : Spot) → applied s ≡ ready l r s) → IsTableOf l (ready l r) left (keep_new l (ready l r) l kept) calls
+table-end l r done applied left kept calls unkept were t still same = record {
+  spots = λ cid stays. by_known cid stays (known_of calls cid) refl ∙ sym (keep_new-is l (ready l r) kept cid);
   known = known;
+  were = λ cid is. sym (has_call-same l applied (ready l r) cid (each-from _ l (λ a in_l. same a.spot))) ∙ wider cid (were cid is);
   stamps = t.stamps;
 }
   where
-    known : (cid : Cid) → is_some (known_of calls cid) ≡ has_call l (ready l r) cid
-    known cid = t.known cid ∙ has_call-same l applied (ready l r) cid (each-from _ l (λ a in_l. same a.spot))
+    known : (cid : Cid) → is_some (known_of calls cid) ≡ (has_call l (ready l r) cid && not (left cid))
+    known cid = t.known cid ∙ ap (λ b. b && not (left cid)) (has_call-same l applied (ready l r) cid (each-from _ l (λ a in_l. same a.spot)))
 
-    by_known : (cid : Cid) (o : Option Known) → known_of calls cid ≡ o → option_map (λ k. k.spot) o ≡ spot_to_keep l (ready l r) kept cid
-    by_known cid (Some k) e = sym (t.spots cid k e)
-    by_known cid None e =
-        let lacked : has_call l done cid ≡ false = never _ (λ has. true≢false (sym (has_call-wider l done applied cid (λ b in_l here. still b.spot here) has) ∙ sym (t.known cid) ∙ ap is_some e)) in
-        sym (ap (λ k. option_or k (least_spot l (ready l r) cid)) (unkept cid lacked) ∙ least_spot-lacks l (ready l r) cid (sym (known cid) ∙ ap is_some e))
+    wider : (cid : Cid) → has_call l done cid ≡ true → has_call l applied cid ≡ true
+    wider cid has = has_call-wider l done applied cid (λ b in_l here. still b.spot here) has
+
+    by_known : (cid : Cid) → left cid ≡ false → (o : Option Known) → known_of calls cid ≡ o → option_map (λ k. k.spot) o ≡ spot_to_keep l (ready l r) kept cid
+    by_known cid stays (Some k) e = sym (t.spots cid k e)
+    by_known cid stays None e =
+        let absent : has_call l applied cid ≡ false = sym (and-true _ _ (ap not stays)) ∙ sym (t.known cid) ∙ ap is_some e in
+        let lacked : has_call l done cid ≡ false = never _ (λ has. true≢false (sym (wider cid has) ∙ absent)) in
+        let unready : has_call l (ready l r) cid ≡ false = sym (and-true _ _ (ap not stays)) ∙ sym (known cid) ∙ ap is_some e in
+        sym (ap (λ k. option_or k (least_spot l (ready l r) cid)) (unkept cid stays lacked) ∙ least_spot-lacks l (ready l r) cid unready)
 
 -- where nothing that waits can be applied, all is settled
-settling-end : {Value Op : Type 0} (m : Meaning Value Op) (l : List (Acceptance Op)) (r done : SpotSet) (kept : List Kept) → IsSound l
-    → ((cid : Cid) → has_call l done cid ≡ false → kept_spot kept cid ≡ None)
-    → (todo : List (LogUpdate Op)) (p : Progress Value) (applied named : SpotSet) → Settling m l r done kept todo p applied named → Each (λ u. stamp_le u.prev p.val_ts ≡ false) todo → IsSettled m l r kept p
-settling-end m l r done kept sound unkept todo p applied named s none = record {
+settling-end : {Value Op : Type 0} (m : Meaning Value Op) (l : List (Acceptance Op)) (r done : SpotSet) (left : Cid → Bool) (kept : List Kept) → IsSound l
+    → ((cid : Cid) → left cid ≡ false → has_call l done cid ≡ false → kept_spot kept cid ≡ None) → ((cid : Cid) → left cid ≡ true → has_call l done cid ≡ true)
+    → (todo : List (LogUpdate Op)) (p : Progress Value) (applied named : SpotSet) → Settling m l r done left kept todo p applied named → Each (λ u. stamp_le u.prev p.val_ts ≡ false) todo → IsSettled m l r left kept p
+settling-end m l r done left kept sound unkept were todo p applied named s none = record {
   names = names-same p.val_ts named (ready l r) (λ k. same-test _ _ (s.waiting.within k) (λ h. s.waiting.held k (all k h))) s.waiting.names;
   value_is = s.value_is ∙ value-same m l applied (ready l r) (each-from _ l (λ a in_l. same a.spot));
-  table = table-end l r done applied kept p.calls unkept s.table s.waiting.still same;
+  table = table-end l r done applied left kept p.calls unkept were s.table s.waiting.still same;
 }
   where
     all : (k : Spot) → ready l r k ≡ true → applied k ≡ true
@@ -104,36 +110,36 @@ settling-end m l r done kept sound unkept todo p applied named s none = record {
 -- ---- the loop
 
 -- with a turn for each update that waits, all that is ready is applied
-pub settling-all : {Value Op : Type 0} (m : Meaning Value Op) (l : List (Acceptance Op)) (r done : SpotSet) (kept : List Kept) (rep_ts : List ℕ)
-    → IsSound l → HasOneCall l → Each (λ a. Each (λ b. Commute m a.op b.op) l) l → IsCounted r rep_ts → ((cid : Cid) → has_call l done cid ≡ false → kept_spot kept cid ≡ None)
-    → (turns : ℕ) (todo : List (LogUpdate Op)) (p : Progress Value) (applied named : SpotSet) → Settling m l r done kept todo p applied named → length todo ≤ turns → IsSettled m l r kept (apply_ready m turns todo p)
-settling-all {Value} {Op} m l r done kept rep_ts sound one_call commute counted unkept zero todo p applied named s enough =
-    settling-end m l r done kept sound unkept todo p applied named s (none_left todo enough)
+pub settling-all : {Value Op : Type 0} (m : Meaning Value Op) (l : List (Acceptance Op)) (r done : SpotSet) (left : Cid → Bool) (kept : List Kept) (rep_ts : List ℕ)
+    → IsSound l → HasOneCall l → Each (λ a. Each (λ b. Commute m a.op b.op) l) l → IsCounted r rep_ts → ((cid : Cid) → left cid ≡ false → has_call l done cid ≡ false → kept_spot kept cid ≡ None) → ((cid : Cid) → left cid ≡ true → has_call l done cid ≡ true)
+    → (turns : ℕ) (todo : List (LogUpdate Op)) (p : Progress Value) (applied named : SpotSet) → Settling m l r done left kept todo p applied named → length todo ≤ turns → IsSettled m l r left kept (apply_ready m turns todo p)
+settling-all {Value} {Op} m l r done left kept rep_ts sound one_call commute counted unkept were zero todo p applied named s enough =
+    settling-end m l r done left kept sound unkept were todo p applied named s (none_left todo enough)
   where
     none_left : (us : List (LogUpdate Op)) → length us ≤ 0 → Each (λ u. stamp_le u.prev p.val_ts ≡ false) us
     none_left [] h = tt
     none_left (u ∷ us) h = absurd (omega arith)
-settling-all {Value} {Op} m l r done kept rep_ts sound one_call commute counted unkept (suc turns) todo p applied named s enough =
-    by_taken (take_ready p.val_ts todo) refl (λ taken. settling-all m l r done kept rep_ts sound one_call commute counted unkept turns taken.1 (apply_one m p taken.0))
+settling-all {Value} {Op} m l r done left kept rep_ts sound one_call commute counted unkept were (suc turns) todo p applied named s enough =
+    by_taken (take_ready p.val_ts todo) refl (λ taken. settling-all m l r done left kept rep_ts sound one_call commute counted unkept were turns taken.1 (apply_one m p taken.0))
   where
     by_taken : (o : Option (LogUpdate Op × List (LogUpdate Op))) → take_ready p.val_ts todo ≡ o
-        → ((taken : LogUpdate Op × List (LogUpdate Op)) (applied named : SpotSet) → Settling m l r done kept taken.1 (apply_one m p taken.0) applied named → length taken.1 ≤ turns → IsSettled m l r kept (apply_ready m turns taken.1 (apply_one m p taken.0)))
-        → IsSettled m l r kept (option_map_or {T = LogUpdate Op × List (LogUpdate Op)} (λ taken. apply_ready m turns taken.1 (apply_one m p taken.0)) o p)
-    by_taken None e go_on = settling-end m l r done kept sound unkept todo p applied named s (take_ready-none p.val_ts todo e)
+        → ((taken : LogUpdate Op × List (LogUpdate Op)) (applied named : SpotSet) → Settling m l r done left kept taken.1 (apply_one m p taken.0) applied named → length taken.1 ≤ turns → IsSettled m l r left kept (apply_ready m turns taken.1 (apply_one m p taken.0)))
+        → IsSettled m l r left kept (option_map_or {T = LogUpdate Op × List (LogUpdate Op)} (λ taken. apply_ready m turns taken.1 (apply_one m p taken.0)) o p)
+    by_taken None e go_on = settling-end m l r done left kept sound unkept were todo p applied named s (take_ready-none p.val_ts todo e)
     by_taken (Some taken) e go_on =
         let t = take_ready-some p.val_ts todo taken s.waiting.ascending e in
         let of = each-at _ taken.0 todo s.waiting.updates t.among in
         let is_ready : ready l r of.0.spot ≡ true = applicable-ready l r sound rep_ts p.val_ts named counted s.waiting.names s.waiting.within taken.0 of.0 of.1 t.applicable of.2 in
         let fewer = t.fewer in
-        go_on taken _ _ (settling-step m l r done kept sound one_call commute unkept todo p applied named s taken.0 taken.1 t of.0 of.1 is_ready) (omega arith)
+        go_on taken _ _ (settling-step m l r done left kept sound one_call commute unkept todo p applied named s taken.0 taken.1 t of.0 of.1 is_ready) (omega arith)
 
 -- ---- the start, and the whole
 
 -- where more was received, applying begins with what waits
-settling-start : {Value Op : Type 0} (m : Meaning Value Op) (l : List (Acceptance Op)) (r g done : SpotSet) (kept : List Kept) (state : CausalState Value Op)
-    → IsPending m l r g done kept state
-    → Settling m l r done kept (waiting state.val_ts state.updates) (progress_of state) done done
-settling-start {Value} {Op} m l r g done kept state pending = record {
+settling-start : {Value Op : Type 0} (m : Meaning Value Op) (l : List (Acceptance Op)) (r g done : SpotSet) (left : Cid → Bool) (kept : List Kept) (state : CausalState Value Op)
+    → IsPending m l r g done left kept state
+    → Settling m l r done left kept (waiting state.val_ts state.updates) (progress_of state) done done
+settling-start {Value} {Op} m l r g done left kept state pending = record {
   waiting = record {
     names = pending.applied.names;
     within = pending.within;
@@ -147,8 +153,9 @@ settling-start {Value} {Op} m l r g done kept state pending = record {
     ascending = ascending-filter waits state.updates pending.log.ascending;
   };
   value_is = pending.applied.value_is;
+  known = each-map _ _ (waiting state.val_ts state.updates) (λ u h. h.0 (not-false _ h.1)) (filter-each (λ u. is_covered state.val_ts u ≡ false → left u.cid ≡ false) waits state.updates (each-from _ state.updates alive));
   table = record {
-    spots = λ cid k e. ap (λ o. option_or o (least_spot l (ready l r) cid)) (sym (pending.applied.table.spots cid) ∙ ap (option_map (λ j. j.spot)) e);
+    spots = λ cid k e. ap (λ o. option_or o (least_spot l (ready l r) cid)) (sym (pending.applied.table.spots cid (stays cid k e)) ∙ ap (option_map (λ j. j.spot)) e);
     known = pending.applied.table.known;
     stamps = pending.applied.table.stamps;
   };
@@ -157,6 +164,17 @@ settling-start {Value} {Op} m l r g done kept state pending = record {
     waits : LogUpdate Op → Bool
     waits u = not (is_covered state.val_ts u)
 
+    -- an update that isn't applied is of no call that left
+    alive : (u : LogUpdate Op) → IsAmong u state.updates → is_covered state.val_ts u ≡ false → left u.cid ≡ false
+    alive u member out =
+        let of = each-at _ u state.updates pending.log.each member in
+        never (left u.cid) (λ gone. true≢false (sym (each-at _ of.0 l pending.over of.1.among (ap left (sym of.1.cid) ∙ gone))
+        ∙ ap done (sym of.1.spot) ∙ sym (each-at _ u state.updates pending.flagged member) ∙ out))
+
+    -- nor is a call of the table
+    stays : (cid : Cid) (k : Known) → known_of state.calls cid ≡ Some k → left cid ≡ false
+    stays cid k e = not-false (left cid) (and-right (has_call l done cid) _ (sym (pending.applied.table.known cid) ∙ ap is_some e))
+
 -- acceptances of which none need one order commute
 all-commute : {Value Op : Type 0} (m : Meaning Value Op) {e : Encoding Value} (kind_of : Op → Kind) → Lawful m e kind_of → (l : List (Acceptance Op)) → IsFree m l → Each (λ a. Each (λ b. Commute m a.op b.op) l) l
 all-commute m kind_of lawful l free = each-from _ l (λ a in_a. each-from _ l (λ b in_b v.
@@ -164,21 +182,21 @@ all-commute m kind_of lawful l free = each-from _ l (λ a in_a. each-from _ l (�
 
 -- after applying, the value, its stamp and the table are those of all that is ready
 pub settled : {Value Op : Type 0} (m : Meaning Value Op) {e : Encoding Value} (kind_of : Op → Kind) → Lawful m e kind_of
-    → (l : List (Acceptance Op)) (r g done : SpotSet) (kept : List Kept) (state : CausalState Value Op)
-    → IsSound l → HasOneCall l → IsFree m l → IsPending m l r g done kept state
-    → HasApplied m l (ready l r) (keep_new l (ready l r) l kept) (after_applying m state)
-settled m kind_of lawful l r g done kept state sound one_call free pending = record {
+    → (l : List (Acceptance Op)) (r g done : SpotSet) (left : Cid → Bool) (kept : List Kept) (state : CausalState Value Op)
+    → IsSound l → HasOneCall l → IsFree m l → IsPending m l r g done left kept state
+    → HasApplied m l (ready l r) left (keep_new l (ready l r) l kept) (after_applying m state)
+settled m kind_of lawful l r g done left kept state sound one_call free pending = record {
   names = whole.names;
   value_is = whole.value_is;
   table = whole.table;
 }
   where
-    unkept : (cid : Cid) → has_call l done cid ≡ false → kept_spot kept cid ≡ None
-    unkept cid lacks = by_known (known_of state.calls cid) (sym (pending.applied.table.spots cid)) (pending.applied.table.known cid ∙ lacks)
+    unkept : (cid : Cid) → left cid ≡ false → has_call l done cid ≡ false → kept_spot kept cid ≡ None
+    unkept cid stays lacks = by_known (known_of state.calls cid) (sym (pending.applied.table.spots cid stays)) (pending.applied.table.known cid ∙ ap (λ b. b && not (left cid)) lacks)
       where
         by_known : (o : Option Known) → kept_spot kept cid ≡ option_map (λ k. k.spot) o → is_some o ≡ false → kept_spot kept cid ≡ None
         by_known None e none = e
         by_known (Some k) e none = absurd (true≢false none)
 
-    whole : IsSettled m l r kept (apply_ready m (length (waiting state.val_ts state.updates)) (waiting state.val_ts state.updates) (progress_of state))
-    whole = settling-all m l r done kept state.rep_ts sound one_call (all-commute m kind_of lawful l free) pending.counted unkept _ (waiting state.val_ts state.updates) (progress_of state) done done (settling-start m l r g done kept state pending) (omega arith)
+    whole : IsSettled m l r left kept (apply_ready m (length (waiting state.val_ts state.updates)) (waiting state.val_ts state.updates) (progress_of state))
+    whole = settling-all m l r done left kept state.rep_ts sound one_call (all-commute m kind_of lawful l free) pending.counted unkept pending.applied.table.were _ (waiting state.val_ts state.updates) (progress_of state) done done (settling-start m l r g done left kept state pending) (omega arith)

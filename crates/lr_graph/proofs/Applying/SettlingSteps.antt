@@ -1,5 +1,5 @@
 -- One step of applying what is ready: what holds of the updates that wait, of the value and of the table.
-use Rattle.std.proofs.Common.{◌≡◌, ℕ, zero, suc, ◌<◌, ◌≤◌, nat_lt, leb-true, le-leb, Bool, true, false, cond, ◌||◌, ◌⊎◌, inl, inr, List, Some, None, is_some, refl, sym, ap, ◌∙◌, subst, true≢false, arith}
+use Rattle.std.proofs.Common.{◌≡◌, ℕ, zero, suc, ◌<◌, ◌≤◌, nat_lt, leb-true, le-leb, Bool, true, false, cond, not, ◌&&◌, ◌||◌, ◌⊎◌, inl, inr, List, Some, None, is_some, refl, sym, ap, ◌∙◌, subst, true≢false, arith}
 use Rattle.std.proofs.lemmas.Bool.{lt-ltb}
 use Rattle.std.specs.Option.{option_or}
 use Rattle.lr_base.specs.Ascending.{is_before, same_cid}
@@ -22,7 +22,7 @@ use Rattle.lr_graph.proofs.Sets.KeptSpots.{IsFirst, least_spot-first, spot_to_ke
 use Rattle.lr_graph.proofs.Lists.Members.{each-at, each-from, each-map}
 use Rattle.lr_graph.proofs.Sets.ReadySets.{apart-same, below-accepted, below-parts, causes-accepted, holds-ready, names-join, ready-closed, ready-received, self-below, update-stamp}
 use Rattle.lr_graph.proofs.Applying.Taking.{IsTaken, known_of-either}
-use Rattle.lr_graph.proofs.Lists.Tests.{and-intro, and-right, never, or-cases, or-false, or-false_left, or-false_right, or-left, or-right, same_cid-is, same_spot-is, same_spot-self}
+use Rattle.lr_graph.proofs.Lists.Tests.{and-intro, and-right, and-true, never, or-cases, or-false, or-false_left, or-false_right, or-left, or-right, same_cid-is, same_spot-is, same_spot-self}
 use Rattle.lr_graph.proofs.Related.Ties.{HasOneCall, HasUpdateAt, IsAscending, IsUpdateOf, StandsFor}
 use Rattle.lr_graph.proofs.Sets.Values.{Commute, CommutesWithNewer, commutes-newer, has_call-more, has_call-wider, holds-has_call, value-again, value-new}
 
@@ -39,17 +39,18 @@ pub record IsWaiting {Op : Type 0} (l : List (Acceptance Op)) (r done : SpotSet)
   pub covered : Each (λ a. r a.spot ≡ true → applied a.spot ≡ false → HasUpdateAt a.spot todo) l
   pub ascending : IsAscending todo
 
--- the table has the calls of the applied ones, each at the spot that is kept of it in the end
-pub record IsTableSoFar {Op : Type 0} (l : List (Acceptance Op)) (r applied : SpotSet) (kept : List Kept) (calls : List (Cid × Known)) : Type 0 where
+-- the table has the calls of the applied ones but for those that left, each at the spot that is kept of it in the end
+pub record IsTableSoFar {Op : Type 0} (l : List (Acceptance Op)) (r applied : SpotSet) (left : Cid → Bool) (kept : List Kept) (calls : List (Cid × Known)) : Type 0 where
   pub spots : (cid : Cid) (k : Known) → known_of calls cid ≡ Some k → spot_to_keep l (ready l r) kept cid ≡ Some k.spot
-  pub known : (cid : Cid) → is_some (known_of calls cid) ≡ has_call l applied cid
+  pub known : (cid : Cid) → is_some (known_of calls cid) ≡ (has_call l applied cid && not (left cid))
   pub stamps : (cid : Cid) (k : Known) → known_of calls cid ≡ Some k → (a : Acceptance Op) × IsAmong a l × (k.spot ≡ a.spot) × (a.cid ≡ cid) × Names k.stamp a.below
 
--- applying has come so far: these updates wait, and the value and the table are those of the applied ones
-pub record Settling {Value Op : Type 0} (m : Meaning Value Op) (l : List (Acceptance Op)) (r done : SpotSet) (kept : List Kept) (todo : List (LogUpdate Op)) (p : Progress Value) (applied named : SpotSet) : Type 0 where
+-- applying has come so far: these updates wait, of no call that left, and the value and the table are those of the applied ones
+pub record Settling {Value Op : Type 0} (m : Meaning Value Op) (l : List (Acceptance Op)) (r done : SpotSet) (left : Cid → Bool) (kept : List Kept) (todo : List (LogUpdate Op)) (p : Progress Value) (applied named : SpotSet) : Type 0 where
   pub waiting : IsWaiting l r done todo p.val_ts applied named
   pub value_is : p.value ≡ value m l applied
-  pub table : IsTableSoFar l r applied kept p.calls
+  pub known : Each (λ u. left u.cid ≡ false) todo
+  pub table : IsTableSoFar l r applied left kept p.calls
 
 -- ---- stamps and what is received
 
@@ -94,12 +95,12 @@ module _ {Op : Type 0} (l : List (Acceptance Op)) (r : SpotSet) (sound : IsSound
 
 -- ---- the table
 
-module _ {Op : Type 0} (l : List (Acceptance Op)) (r applied : SpotSet) (kept : List Kept) (calls : List (Cid × Known)) (t : IsTableSoFar l r applied kept calls) (apart : HasApartSpots l) (a : Acceptance Op) (member : IsAmong a l) where
+module _ {Op : Type 0} (l : List (Acceptance Op)) (r applied : SpotSet) (left : Cid → Bool) (kept : List Kept) (calls : List (Cid × Known)) (t : IsTableSoFar l r applied left kept calls) (apart : HasApartSpots l) (a : Acceptance Op) (member : IsAmong a l) where
   -- an acceptance of a call that is known changes nothing
-  table-again : has_call l applied a.cid ≡ true → IsTableSoFar l r (applied ∪ only a.spot) kept calls
+  table-again : has_call l applied a.cid ≡ true → IsTableSoFar l r (applied ∪ only a.spot) left kept calls
   table-again has = record {
     spots = t.spots;
-    known = λ cid. t.known cid ∙ absorbed cid (same_cid cid a.cid) refl ∙ sym (has_call-more l applied a apart member cid);
+    known = λ cid. t.known cid ∙ ap (λ b. b && not (left cid)) (absorbed cid (same_cid cid a.cid) refl ∙ sym (has_call-more l applied a apart member cid));
     stamps = t.stamps;
   }
     where
@@ -108,19 +109,25 @@ module _ {Op : Type 0} (l : List (Acceptance Op)) (r applied : SpotSet) (kept : 
       absorbed cid false e = refl
 
   -- a call that isn't known is entered, at the spot that is kept of it
-  table-new : (u : LogUpdate Op) → StandsFor l u a → Names (stamp_of u) a.below → spot_to_keep l (ready l r) kept a.cid ≡ Some a.spot
-      → IsTableSoFar l r (applied ∪ only a.spot) kept (enter_call (u.cid, record { spot = u.spot; stamp = stamp_of u }) calls)
-  table-new u stands stamp keeps = record {
+  table-new : (u : LogUpdate Op) → StandsFor l u a → left u.cid ≡ false → Names (stamp_of u) a.below → spot_to_keep l (ready l r) kept a.cid ≡ Some a.spot
+      → IsTableSoFar l r (applied ∪ only a.spot) left kept (enter_call (u.cid, record { spot = u.spot; stamp = stamp_of u }) calls)
+  table-new u stands stays stamp keeps = record {
     spots = λ cid k h. elim (known_of-either calls u.cid _ cid k h) [
       | inl before ↦ t.spots cid k before
       | inr new ↦ ap (spot_to_keep l (ready l r) kept) (new.0 ∙ stands.cid) ∙ keeps ∙ ap Some (sym stands.spot) ∙ ap (λ (j : Known). Some j.spot) new.1
     ];
-    known = λ cid. some-entered _ calls cid ∙ (λ i. same_cid cid (stands.cid i) || t.known cid i) ∙ sym (has_call-more l applied a apart member cid);
+    known = λ cid. some-entered _ calls cid ∙ (λ i. same_cid cid (stands.cid i) || t.known cid i)
+        ∙ entered cid (same_cid cid a.cid) refl ∙ ap (λ b. b && not (left cid)) (sym (has_call-more l applied a apart member cid));
     stamps = λ cid k h. elim (known_of-either calls u.cid _ cid k h) [
       | inl before ↦ t.stamps cid k before
       | inr new ↦ (a, member, ap (λ (j : Known). j.spot) (sym new.1) ∙ stands.spot, sym (new.0 ∙ stands.cid), subst (λ (j : Known). Names j.stamp a.below) new.1 stamp)
     ];
   }
+    where
+      entered : (cid : Cid) (same : Bool) → same_cid cid a.cid ≡ same
+          → (same || (has_call l applied cid && not (left cid))) ≡ ((same || has_call l applied cid) && not (left cid))
+      entered cid false e = refl
+      entered cid true e = sym (ap not (ap left (same_cid-is cid a.cid e ∙ sym stands.cid) ∙ stays))
 
 -- ---- one step
 
@@ -176,12 +183,12 @@ waiting-step {Op} l r done sound todo val_ts applied named w u rest taken a stan
             absurd (true≢false (sym (same_spot-self a.spot) ∙ ap (λ s. same_spot s a.spot) (sym one) ∙ other))
 
 -- applying one update keeps what holds between two steps
-pub settling-step : {Value Op : Type 0} (m : Meaning Value Op) (l : List (Acceptance Op)) (r done : SpotSet) (kept : List Kept)
-    → IsSound l → HasOneCall l → Each (λ a. Each (λ b. Commute m a.op b.op) l) l → ((cid : Cid) → has_call l done cid ≡ false → kept_spot kept cid ≡ None)
-    → (todo : List (LogUpdate Op)) (p : Progress Value) (applied named : SpotSet) → Settling m l r done kept todo p applied named
+pub settling-step : {Value Op : Type 0} (m : Meaning Value Op) (l : List (Acceptance Op)) (r done : SpotSet) (left : Cid → Bool) (kept : List Kept)
+    → IsSound l → HasOneCall l → Each (λ a. Each (λ b. Commute m a.op b.op) l) l → ((cid : Cid) → left cid ≡ false → has_call l done cid ≡ false → kept_spot kept cid ≡ None)
+    → (todo : List (LogUpdate Op)) (p : Progress Value) (applied named : SpotSet) → Settling m l r done left kept todo p applied named
     → (u : LogUpdate Op) (rest : List (LogUpdate Op)) → IsTaken p.val_ts todo u rest → (a : Acceptance Op) → StandsFor l u a → ready l r a.spot ≡ true
-    → Settling m l r done kept rest (apply_one m p u) (applied ∪ only a.spot) (named ∪ a.below)
-settling-step {Value} {Op} m l r done kept sound one_call commute unkept todo p applied named s u rest taken a stands is_ready =
+    → Settling m l r done left kept rest (apply_one m p u) (applied ∪ only a.spot) (named ∪ a.below)
+settling-step {Value} {Op} m l r done left kept sound one_call commute unkept todo p applied named s u rest taken a stands is_ready =
     by_known (is_some (known_of p.calls u.cid)) refl
   where
     waits : IsWaiting l r done rest (join p.val_ts (stamp_of u)) (applied ∪ only a.spot) (named ∪ a.below)
@@ -196,26 +203,34 @@ settling-step {Value} {Op} m l r done kept sound one_call commute unkept todo p 
     one_op : Each (λ b. a.cid ≡ b.cid → a.op ≡ b.op) l
     one_op = each-from _ l (λ b in_l one. (one_call a b stands.among in_l one).0)
 
+    stays : left u.cid ≡ false
+    stays = each-at _ u todo s.known taken.among
+
     keeps : has_call l applied a.cid ≡ false → spot_to_keep l (ready l r) kept a.cid ≡ Some a.spot
     keeps lacks =
         let lacked : has_call l done a.cid ≡ false = never _ (λ has. true≢false (sym (has_call-wider l done applied a.cid (λ b in_l here. s.waiting.still b.spot here) has) ∙ lacks)) in
-        ap (λ k. option_or k (least_spot l (ready l r) a.cid)) (unkept a.cid lacked)
+        ap (λ k. option_or k (least_spot l (ready l r) a.cid)) (unkept a.cid (ap left (sym stands.cid) ∙ stays) lacked)
         ∙ least-taken l r done sound one_call todo p.val_ts applied named s.waiting u rest taken a stands is_ready lacks
 
     known_call : has_call l applied a.cid ≡ is_some (known_of p.calls u.cid)
-    known_call = ap (has_call l applied) (sym stands.cid) ∙ sym (s.table.known u.cid)
+    known_call = ap (has_call l applied) (sym stands.cid) ∙ sym (and-true (has_call l applied u.cid) _ (ap not stays)) ∙ sym (s.table.known u.cid)
 
-    by_known : (t : Bool) → is_some (known_of p.calls u.cid) ≡ t → Settling m l r done kept rest
+    others : Each (λ x. left x.cid ≡ false) rest
+    others = each-from _ rest (λ x in_rest. each-at _ x todo s.known (taken.others x in_rest))
+
+    by_known : (t : Bool) → is_some (known_of p.calls u.cid) ≡ t → Settling m l r done left kept rest
         (cond {A = Progress Value} t (record p { val_ts = join p.val_ts (stamp_of u) })
         (record { value = m.apply p.value u.op; val_ts = join p.val_ts (stamp_of u); calls = enter_call (u.cid, record { spot = u.spot; stamp = stamp_of u }) p.calls }))
         (applied ∪ only a.spot) (named ∪ a.below)
     by_known true e = record {
       waiting = waits;
+      known = others;
       value_is = s.value_is ∙ sym (value-again m l applied a sound.apart one_op stands.among out (known_call ∙ e) commutes);
-      table = table-again l r applied kept p.calls s.table sound.apart a stands.among (known_call ∙ e);
+      table = table-again l r applied left kept p.calls s.table sound.apart a stands.among (known_call ∙ e);
     }
     by_known false e = record {
       waiting = waits;
+      known = others;
       value_is = (λ i. m.apply (s.value_is i) (stands.op i)) ∙ sym (value-new m l applied a sound.apart stands.among out (known_call ∙ e) commutes);
-      table = table-new l r applied kept p.calls s.table sound.apart a stands.among u stands (update-stamp l sound u a stands) (keeps (known_call ∙ e));
+      table = table-new l r applied left kept p.calls s.table sound.apart a stands.among u stands stays (update-stamp l sound u a stands) (keeps (known_call ∙ e));
     }

@@ -126,7 +126,7 @@ module _ {Value Op : Type 0} (m : Meaning Value Op) (config : Config) where
 
     -- its message goes out
     sends : (what : Carried Op) (sent : Sent) (message : Message Op) → IsWay (Client client) (Replica replica) what → carried w1 (Client client) sent ≡ what → sent ≡ sent_of_message message
-        → SameCarried m config w.accepted w.acks w.received more (calls_in w1) what message
+        → SameCarried m config w.accepted w.acks (w.received replica) more (calls_in w1) what message
         → (act_lines (length v.posted) (Client client) (Send (Replica replica) message ∷ []) ≡ SendLine (next_number w) (Client client) (Replica replica) sent ∷ [])
         × IsSame m config (lines_read m config (alone (Some (Client client))) w1 (SendLine (next_number w) (Client client) (Replica replica) sent ∷ [])) (record (with_front v client opened_by_rules) { posted = v.posted ++ posting (Client client) (Replica replica) message ∷ [] })
     sends what sent message way reads says carries = (
@@ -135,7 +135,7 @@ module _ {Value Op : Type 0} (m : Meaning Value Op) (config : Config) where
         issued = more;
         shared = message-sent m config more w1 (set v.fronts client opened_by_rules) v.posted opened
             (record { number = next_number w; from = Client client; to = Replica replica; what = carried w1 (Client client) sent }) (posting (Client client) (Replica replica) message) next_is
-            (record { from = refl; to = refl; way = subst (λ (c : Carried Op). IsWay (Client client) (Replica replica) c) (sym reads) way; there = other; what = subst (λ (c : Carried Op). SameCarried m config w.accepted w.acks w.received more (calls_in w1) c message) (sym reads) carries });
+            (record { from = refl; to = refl; way = subst (λ (c : Carried Op). IsWay (Client client) (Replica replica) c) (sym reads) way; there = other; what = subst (λ (c : Carried Op). SameCarried m config w.accepted w.acks (w.received replica) more (calls_in w1) c message) (sym reads) carries }) tt;
         replicas = same.replicas;
       },
     )

@@ -18,6 +18,7 @@ use Rattle.lr_graph.proofs.Related.More.{message-more}
 use Rattle.lr_graph.proofs.Related.Relation.{HasFront, IsAcceptance, IsIssued, IsOpen, IsSame, IsShared, SameFront, calls_in}
 use Rattle.lr_graph.proofs.Replicas.Stepping.{put-other, put-same}
 use Rattle.lr_graph.proofs.Lists.Tests.{equal-or-not}
+use Rattle.lr_graph.proofs.Pruning.Spreading.{spread-beside}
 
 -- other names of calls, which agree on what was issued
 module _ {Value Op : Type 0} (m : Meaning Value Op) (config : Config) (l : List (Acceptance Op)) (acks : List LogAck) (issued more : Cid → Option (LabelledCall Op)) (calls after : ℕ → ℕ)
@@ -55,10 +56,11 @@ module _ {Value Op : Type 0} (m : Meaning Value Op) (config : Config) (w : Facts
     numbered = same.shared.numbered;
     own = same.shared.own;
     exist = same.shared.exist;
+    spread = spread-beside config w (put_at client a w.front) w.kept w.held w.clock same.shared.spread;
     fronts_are = fronts;
     opened = opened_all;
     count = same.shared.count;
-    messages = λ n. message-more m config (λ c d call. call) (λ x set. set) (λ c s x done. done) (issued-more m config w.accepted w.acks same.issued more (calls_in w) after agree grows) (λ x g gossip. gossip) (find (λ y. y.number == n) w.messages) (message_at v.posted n) (same.shared.messages n);
+    messages = λ n. message-more m config (λ c d call. call) (λ x set. set) (λ c s x done. done) (issued-more m config w.accepted w.acks same.issued more (calls_in w) after agree grows) (λ to x g gossip. gossip) (find (λ y. y.number == n) w.messages) (message_at v.posted n) (same.shared.messages n);
   }
     where
       after : ℕ → ℕ

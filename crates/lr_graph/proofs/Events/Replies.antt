@@ -19,7 +19,7 @@ use Rattle.lr_graph.specs.After.{lines_read, replied, takes_reply}
 use Rattle.lr_graph.specs.Graph.{Acceptance, AnswerReply, Carried, DoneReply, Facts, FrontFacts, LabelledCall}
 use Rattle.lr_graph.specs.Legal.{message_lines, reply_line}
 use Rattle.lr_graph.specs.Runs.{RunState, acted, with_front}
-use Rattle.lr_graph.specs.Sets.{SpotSet, put_at, ◌∪◌}
+use Rattle.lr_graph.specs.Sets.{SpotSet, nothing, put_at, ◌∪◌}
 use Rattle.lr_graph.specs.Closed.{IsAccepted, IsSetOf, IsWithin}
 use Rattle.lr_graph.specs.Names.{Names}
 use Rattle.lr_graph.proofs.Events.FrontSteps.{front-changed, says-only}
@@ -116,7 +116,7 @@ module _ {Value Op : Type 0} (m : Meaning Value Op) (config : Config) where
         by_test true false q test = absurd (true≢false q)
         by_test false true q test = absurd (true≢false (sym q))
 
-    pub front-given : (from : Actor) (what : Carried Op) (message : Message Op) → IsWay from (Client client) what → SameCarried m config w.accepted w.acks w.received same.issued (calls_in w) what message
+    pub front-given : (from : Actor) (what : Carried Op) (message : Message Op) → IsWay from (Client client) what → SameCarried m config w.accepted w.acks nothing same.issued (calls_in w) what message
         → Given what (after_message message front) (message_acts message front) (message_lines m config w (Client client) what)
     front-given from what message way (same_done cid other names spot stamp cids named set done) =
         reply (DoneReply cid names) names cid other stamp (Some cid) (Some other) cids (ap Some cids) (λ c at same. sym (ap (λ (k : Cid). k.client) same) ∙ subst (IsOwnCall client) at is.own_call) named set (λ number from. refl) (w.front client).open_call front.open_call refl is.open_call

@@ -76,7 +76,7 @@ module _ {Value Op : Type 0} (m : Meaning Value Op) (config : Config) where
 
     -- a message goes out
     sends : (what : Carried Op) (sent : Sent) (message : Message Op) → IsWay (Client client) (Replica replica) what → carried w1 (Client client) sent ≡ what → sent ≡ sent_of_message message
-        → SameCarried m config w.accepted w.acks w.received same.issued (calls_in w1) what message
+        → SameCarried m config w.accepted w.acks (w.received replica) same.issued (calls_in w1) what message
         → Does (SendLine (next_number w) (Client client) (Replica replica) sent ∷ []) (Send (Replica replica) message ∷ [])
     sends what sent message way reads says carries = (
       (λ k. SendLine (sym next_is k) (Client client) (Replica replica) (sym says k) ∷ []),
@@ -84,7 +84,7 @@ module _ {Value Op : Type 0} (m : Meaning Value Op) (config : Config) where
         issued = same.issued;
         shared = message-sent m config same.issued w1 (set v.fronts client now) v.posted shared_read
             (record { number = next_number w; from = Client client; to = Replica replica; what = carried w1 (Client client) sent }) (posting (Client client) (Replica replica) message) next_is
-            (record { from = refl; to = refl; way = subst (λ (c : Carried Op). IsWay (Client client) (Replica replica) c) (sym reads) way; there = other; what = subst (λ (c : Carried Op). SameCarried m config w.accepted w.acks w.received same.issued (calls_in w1) c message) (sym reads) carries });
+            (record { from = refl; to = refl; way = subst (λ (c : Carried Op). IsWay (Client client) (Replica replica) c) (sym reads) way; there = other; what = subst (λ (c : Carried Op). SameCarried m config w.accepted w.acks (w.received replica) same.issued (calls_in w1) c message) (sym reads) carries }) tt;
         replicas = same.replicas;
       },
     )

@@ -15,7 +15,7 @@ use Rattle.lr_base.specs.declared.names.Cid.{Cid}
 use Rattle.lr_base.specs.declared.names.Spot.{Spot}
 use Rattle.lr_graph.specs.After.{Handling, accept_read, carried, copy_of, got_read, hold_read, line_read, lines_read}
 use Rattle.lr_graph.specs.After.{at_replica, clock_set, note_read, replica_in, replied, take_read, takes_reply}
-use Rattle.lr_graph.specs.After.{with_front, with_message}
+use Rattle.lr_graph.specs.After.{with_front, with_message, with_sender}
 use Rattle.lr_graph.specs.Closed.{Each}
 use Rattle.lr_graph.specs.Fitting.{ActorFits, CidFits, HasNoFeed, NumberFits, OutcomeFits, SentFits, SpotFits}
 use Rattle.lr_graph.specs.Graph.{Carried, Facts, FrontFacts, LabelledCall, SentMessage}
@@ -198,14 +198,14 @@ module _ {Value Op : Type 0} (m : Meaning Value Op) (config : Config) where
         (put-each (λ j clock. NumberFits clock) i reading w.clock fits h.clocks) h.held h.kept h.fronts;
   }
 
-  take-grows : (w : Facts Op) (to : Actor) (what : Carried Op) → FactsFit w → Grows 0 0 w (take_read w to what)
-  take-grows w (Replica i) (GossipOf names) h = record {
+  take-grows : (w : Facts Op) (from to : Actor) (what : Carried Op) → FactsFit w → Grows 0 0 w (take_read w from to what)
+  take-grows w from (Replica i) (GossipOf names) h = record {
     accepted = omega arith;
     load = λ n. omega arith;
     calls = λ client. omega arith;
     fit = fit-by h.spots h.calls h.acks h.messages h.clocks h.held h.kept h.fronts;
   }
-  take-grows w _ _ h = grows-same 0 0 w h
+  take-grows w from _ _ h = grows-same 0 0 w h
 
   -- a front end takes a reply
   taken-grows : (w : Facts Op) (client : ℕ) (names : SpotSet) (answered : Option Cid) → IfThere CidFits answered
@@ -270,7 +270,11 @@ module _ {Value Op : Type 0} (m : Meaning Value Op) (config : Config) where
   line-grows x w (Hold cid) came fits h =
       came-grows 0 1 w (hold_read w) h (λ to what carries. hold-grows w to what carries h) x.came came
   line-grows x w (Take count) came fits h =
-      came-grows 0 0 w (take_read w) h (λ to what carries. take-grows w to what h) x.came came
+      read x.came
+    where
+      read : (o : Option (SentMessage Op)) → Grows 0 0 w (with_sender w o (take_read w))
+      read None = grows-same 0 0 w h
+      read (Some y) = take-grows w y.from y.to y.what h
   line-grows x w (Got cid) came fits h =
       came-grows 0 0 w (got_read w) h (λ to what carries. got-grows w to what carries h) x.came came
   line-grows x w (Stale cid) came fits h = grows-same 0 0 w h

@@ -1,7 +1,7 @@
 -- What is made by the rules is a legal history.
-use Rattle.std.proofs.Common.{◌≡◌, ◌≢◌, ℕ, zero, suc, ◌+◌, ◌<◌, ◌⊎◌, inl, inr, nat_lt, List, [], ◌∷◌, ◌++◌, length, map, replicate, Option, Some, None, refl, sym, ap, ◌∙◌, subst, arith, true≢false, leb-true, ◌==◌, true, not, eqb-true, lt-ltb}
+use Rattle.std.proofs.Common.{◌≡◌, ◌≢◌, ℕ, Bool, true, false, cond, zero, suc, ◌+◌, ◌<◌, ◌⊎◌, inl, inr, nat_lt, List, [], ◌∷◌, ◌++◌, length, map, replicate, get_or, Option, Some, None, refl, sym, ap, ◌∙◌, subst, arith, true≢false, leb-true, ◌==◌, true, not, eqb-true, lt-ltb}
 use Rattle.std.specs.List.{slice_get}
-use Rattle.std.proofs.lemmas.List.{length-append}
+use Rattle.std.proofs.lemmas.List.{get_or-replicate, length-append, length-replicate}
 use Rattle.lr_base.specs.Fronts.{new_front}
 use Rattle.lr_base.specs.Events.{IsEventOf}
 use Rattle.lr_base.specs.Meaning.{Encoding, Lawful, Meaning}
@@ -19,14 +19,19 @@ use Rattle.lr_graph.specs.After.{after}
 use Rattle.lr_graph.specs.Central.{facts_after}
 use Rattle.lr_graph.specs.Closed.{Each, IsSetOf}
 use Rattle.lr_graph.specs.Graph.{Facts, first_facts}
-use Rattle.lr_graph.specs.Legal.{IsLegal, LegalFrom, logged, IsLegalStep, is_event_in}
+use Rattle.lr_graph.specs.Legal.{IsLegal, LegalFrom, IsLegalStep, is_event_in}
 use Rattle.lr_graph.specs.Names.{IsCounted, Names}
 use Rattle.lr_graph.specs.Made.{IsMade, IsMadeFrom, made_step}
 use Rattle.lr_graph.specs.Runs.{RunState, first_fronts, first_replicas, first_run, message_at, run_after, steps_from, stepped}
-use Rattle.lr_graph.specs.Sets.{nothing}
+use Rattle.lr_graph.specs.Sets.{SpotSet, nothing}
+use Rattle.lr_graph.specs.Spread.{IsSpread}
+use Rattle.lr_graph.specs.Timed.{IsTimed}
+use Rattle.lr_graph.specs.Pruned.{is_left, logged, told_by}
+use Rattle.lr_graph.proofs.Timed.Keeping.{changes-timed, first-timed}
+use Rattle.lr_graph.proofs.Timed.Steps.{step-changes}
 use Rattle.lr_graph.proofs.Events.EachEvent.{same-step, legal-step}
 use Rattle.lr_graph.proofs.Lists.Places.{slice-before, slice-behind}
-use Rattle.lr_graph.proofs.Related.Relation.{IsReplicaAt, IsSame, SameMessage, SameOption}
+use Rattle.lr_graph.proofs.Related.Relation.{HasTold, IsReplicaAt, IsSame, SameMessage, SameOption}
 use Rattle.lr_graph.proofs.Lists.Tests.{and-left, and-right, equal-or-not, never, and-intro}
 use Rattle.lr_graph.proofs.Histories.Updates.{CallsFine, Holds, step-fine}
 use Rattle.lr_base.specs.Kinds.{has_rules}
@@ -93,16 +98,18 @@ module _ {Value Op : Type 0} (m : Meaning Value Op) (config : Config) where
   empty-set : IsSetOf {Op = Op} [] nothing
   empty-set = record { exist = λ s e. absurd (true≢false (sym e)); closed = tt }
 
-  first-replica-at : (i : ℕ) → IsReplicaAt {Op = Op} m config [] nothing (logged {Op = Op} config first_facts i) [] [] (first_state m config.replicas (config.replicas + 1))
+  first-replica-at : (i : ℕ) → IsReplicaAt {Op = Op} m config [] nothing (logged {Op = Op} config first_facts i) (is_left {Op = Op} config first_facts i) [] [] (first_state m config.replicas (config.replicas + 1))
   first-replica-at i = record {
     counted = counted-nothing (config.replicas + 1);
     log = record { each = tt; all = tt; ascending = tt };
     covered = tt;
-    within = λ s e. and-right _ _ e;
+    within = λ s e. e;
+    over = tt;
+    kept_are = λ cid e. absurd (true≢false (sym e));
     applied = record {
       names = names-nothing (config.replicas + 1);
       value_is = refl;
-      table = record { spots = λ cid. refl; known = λ cid. refl; stamps = λ cid k e. absurd (none_some k e) };
+      table = record { spots = λ cid stays. refl; known = λ cid. refl; were = λ cid e. absurd (true≢false (sym e)); stamps = λ cid k e. absurd (none_some k e) };
     };
     still = record { imm = part-zeros (config.replicas + 1); parts = length-zeros (config.replicas + 1); keys = tt };
     held_are = tt;
@@ -110,6 +117,25 @@ module _ {Value Op : Type 0} (m : Meaning Value Op) (config : Config) where
     where
       none_some : (k : Known) → ◌≡◌ {A = Option Known} None (Some k) → ⊥
       none_some k e = cc
+
+  -- nothing was told yet
+  first-spread : IsSpread {Op = Op} config first_facts
+  first-spread = record {
+    told = λ i k less. record { within = λ s e. absurd (true≢false (sym e)); causes = tt; calls = λ cid e. tt };
+    taken = λ i k s e. absurd (true≢false (sym e));
+    sent = tt;
+  }
+
+  first-told : (i : ℕ) → HasTold config.replicas (told_by {Op = Op} first_facts i) (first_state m config.replicas (config.replicas + 1))
+  first-told i = record {
+    rows = length-replicate config.replicas (replicate (config.replicas + 1) 0);
+    counted = λ k less. subst (λ (x : SpotSet). IsCounted x (get_or (replicate config.replicas (replicate (config.replicas + 1) 0)) k [])) (none (k == i))
+        (subst (λ (row : List ℕ). IsCounted nothing row) (sym (get_or-replicate config.replicas k (replicate (config.replicas + 1) 0) [] less)) (counted-nothing (config.replicas + 1)));
+  }
+    where
+      none : (t : Bool) → nothing ≡ cond t nothing nothing
+      none true = refl
+      none false = refl
 
   pub first-same : IsSame m config first_facts (first_run m config)
   first-same = record {
@@ -121,6 +147,7 @@ module _ {Value Op : Type 0} (m : Meaning Value Op) (config : Config) where
       numbered = tt;
       own = λ s member. absurd member;
       exist = λ i s e. absurd (true≢false (sym e));
+      spread = first-spread;
       fronts_are = λ client within. (
         new_front config client,
         front-there config.clients client within,
@@ -144,7 +171,7 @@ module _ {Value Op : Type 0} (m : Meaning Value Op) (config : Config) where
       first_state m config.replicas (config.replicas + 1),
       record { replica = first_replica m config i; there = replica-there config.replicas i within; setting = refl; number = refl; state_is = refl },
       first-replica-at i,
-      record { clock_is = refl; acks_are = refl },
+      record { clock_is = refl; acks_are = refl; rows = first-told i },
     );
   }
 
@@ -179,44 +206,44 @@ module _ {Value Op : Type 0} (m : Meaning Value Op) {e : Encoding Value} (kind_o
   calls-rules (Show replica) fits = tt
 
   -- what is made from a run is legal after the facts that belong to it, and the facts and the run after it belong together
-  made-same : (steps : List (Step Op)) (w : Facts Op) (v run : RunState Value Op) → IsMadeFrom m config v steps run → Holds m.kind HasRules w → IsSame m config w v → LegalFrom m config w steps × IsSame m config (facts_after m config w steps) run
-  made-same [] w v run made plain same = (tt, subst (IsSame m config w) made same)
-  made-same (step ∷ steps) w v run made plain same =
-      let one = same-step m kind_of lawful config w v same plain step.event made.0 in
+  made-same : (steps : List (Step Op)) (w : Facts Op) (v run : RunState Value Op) → IsMadeFrom m config v steps run → Holds m.kind HasRules w → IsTimed w → IsSame m config w v → LegalFrom m config w steps × IsSame m config (facts_after m config w steps) run
+  made-same [] w v run made plain timed same = (tt, subst (IsSame m config w) made same)
+  made-same (step ∷ steps) w v run made plain timed same =
+      let one = same-step m kind_of lawful config w v same timed plain step.event made.0 in
       let lines = made.1 ∙ one.lines in
       let next = step-fine m HasRules config w step (calls-rules step.event made.0) lines plain in
-      let rest = made-same steps (after m config w step) (stepped m v step.event).run run made.2 next
+      let rest = made-same steps (after m config w step) (stepped m v step.event).run run made.2 next (changes-timed w (after m config w step) timed (step-changes m config w timed step lines))
       (subst (λ (lines : List Outcome). IsSame m config (after m config w (record { event = step.event; outcomes = lines })) (stepped m v step.event).run) (sym lines) one.same) in
       ((record { event = event-in step.event made.0; outcomes = lines }, rest.0), rest.1)
 
   -- what is made is legal
   pub made-legal : (steps : List (Step Op)) (run : RunState Value Op) → IsMade m config steps run → IsLegal m config steps
-  made-legal steps run made = (made-same steps first_facts (first_run m config) run made (record { accepted = tt; messages = tt; opened = λ client. tt }) (first-same m config)).0
+  made-legal steps run made = (made-same steps first_facts (first_run m config) run made (record { accepted = tt; messages = tt; opened = λ client. tt }) first-timed (first-same m config)).0
 
   -- the run after what is made and the facts of its history belong together
   pub same-after : (steps : List (Step Op)) (run : RunState Value Op) → IsMade m config steps run → IsSame m config (facts_after m config first_facts steps) run
-  same-after steps run made = (made-same steps first_facts (first_run m config) run made (record { accepted = tt; messages = tt; opened = λ client. tt }) (first-same m config)).1
+  same-after steps run made = (made-same steps first_facts (first_run m config) run made (record { accepted = tt; messages = tt; opened = λ client. tt }) first-timed (first-same m config)).1
 
 -- ---- legal histories
 
 module _ {Value Op : Type 0} (m : Meaning Value Op) {e : Encoding Value} (kind_of : Op → Kind) (lawful : Lawful m e kind_of) (config : Config) where
   -- after a legal step some run has the facts
-  pub step-same : (w : Facts Op) (v : RunState Value Op) → IsSame m config w v → (step : Step Op) → IsLegalStep m config w step
+  pub step-same : (w : Facts Op) (v : RunState Value Op) → IsSame m config w v → IsTimed w → (step : Step Op) → IsLegalStep m config w step
       → (u : RunState Value Op) × IsSame m config (after m config w step) u
-  step-same w v same step legal =
-      let one = legal-step m kind_of lawful config w v same step.event legal.event in
+  step-same w v same timed step legal =
+      let one = legal-step m kind_of lawful config w v same timed step.event legal.event in
       (one.0, subst (λ (lines : List Outcome). IsSame m config (after m config w (record { event = step.event; outcomes = lines })) one.0) (sym legal.outcomes) one.1)
 
-  steps-same : (steps : List (Step Op)) (w : Facts Op) (v : RunState Value Op) → IsSame m config w v → LegalFrom m config w steps
+  steps-same : (steps : List (Step Op)) (w : Facts Op) (v : RunState Value Op) → IsSame m config w v → IsTimed w → LegalFrom m config w steps
       → (u : RunState Value Op) × IsSame m config (facts_after m config w steps) u
-  steps-same [] w v same legal = (v, same)
-  steps-same (step ∷ steps) w v same legal =
-      let one = step-same w v same step legal.0 in
-      steps-same steps (after m config w step) one.0 one.1 legal.1
+  steps-same [] w v same timed legal = (v, same)
+  steps-same (step ∷ steps) w v same timed legal =
+      let one = step-same w v same timed step legal.0 in
+      steps-same steps (after m config w step) one.0 one.1 (changes-timed w (after m config w step) timed (step-changes m config w timed step legal.0.outcomes)) legal.1
 
   -- and after a legal history
   pub legal-same : (steps : List (Step Op)) → IsLegal m config steps → (u : RunState Value Op) × IsSame m config (facts_after m config first_facts steps) u
-  legal-same steps legal = steps-same steps first_facts (first_run m config) (first-same m config) legal
+  legal-same steps legal = steps-same steps first_facts (first_run m config) (first-same m config) first-timed legal
 
 -- ---- what is made
 

@@ -1,6 +1,6 @@
 -- What an event itself prints fits, and it adds one acceptance at the most, and one message or held query.
 use Rattle.std.proofs.Common.{◌≡◌, ◌^◌, ◌+◌, ℕ, suc, ◌<◌, ◌≤◌, max, nat_lt, ltb-true, Bool, true, false, cond}
-use Rattle.std.proofs.Common.{◌==◌, List, [], ◌∷◌, length, map, Option, Some, None}
+use Rattle.std.proofs.Common.{◌==◌, List, [], ◌∷◌, filter, length, map, Option, Some, None}
 use Rattle.std.proofs.Common.{arith}
 use Rattle.std.proofs.lemmas.List.Elements.{All-from_recursion}
 use Rattle.std.specs.List.{find}
@@ -29,18 +29,19 @@ use Rattle.lr_graph.specs.Fitting.{ActorFits, CidFits, EventNumberFits, HasNoFee
 use Rattle.lr_graph.specs.Fitting.{SpotFits, StateFits}
 use Rattle.lr_graph.specs.Graph.{Carried, Facts, FrontFacts, LabelledCall, SentMessage}
 use Rattle.lr_graph.specs.Graph.{UpdateCopy, QueryCopy, AckCopy, DoneReply, AnswerReply, GossipOf}
-use Rattle.lr_graph.specs.Graph.{item_spots, kept_spot, made, ready}
-use Rattle.lr_graph.specs.Legal.{accept_lines, ack_lines, acked, acknowledge_lines, answer_line, call_lines, copy_line}
-use Rattle.lr_graph.specs.Legal.{copy_lines, is_acked, delivery_lines, done_line, is_event_in, logged, message_lines}
+use Rattle.lr_graph.specs.Graph.{calls_of, item_spots, kept_spot, made, ready}
+use Rattle.lr_graph.specs.Legal.{accept_lines, ack_lines, acknowledge_lines, answer_line, call_lines, copy_line}
+use Rattle.lr_graph.specs.Legal.{copy_lines, delivery_lines, done_line, is_event_in, message_lines}
 use Rattle.lr_graph.specs.Legal.{next_number, noted_at, resend_lines, own_lines, query_lines, replica_line, reply_line}
-use Rattle.lr_graph.specs.Legal.{taken_at, update_lines}
+use Rattle.lr_graph.specs.Legal.{kept_at, taken_at, update_lines}
+use Rattle.lr_graph.specs.Pruned.{acked, is_acked, is_known, logged}
 use Rattle.lr_graph.proofs.Histories.Amounts.{IfThere, calls_of-each, items-length}
 use Rattle.lr_graph.proofs.Histories.Amounts.{counts-each, how_many-most, kept_spot-is, least_spot-is}
 use Rattle.lr_graph.proofs.Histories.Amounts.{spots_of-each}
 use Rattle.lr_graph.proofs.Histories.Fitting.{CallFits, CarriedFits, FactsFit, FrontFits, IsUpTo, MessageFits}
 use Rattle.lr_graph.proofs.Histories.Fitting.{accepts_of, found-fits, front-fits, load, posts_of, total}
 use Rattle.lr_graph.proofs.Histories.Updates.{AnswersFine}
-use Rattle.lr_graph.proofs.Lists.Members.{each-map}
+use Rattle.lr_graph.proofs.Lists.Members.{each-map, filter-each}
 use Rattle.lr_graph.proofs.Logs.Acks.{each-acks}
 use Rattle.lr_graph.proofs.Lists.Tests.{and-left, and-right}
 use Rattle.lr_graph.proofs.Promised.Changes.{put-each}
@@ -177,7 +178,11 @@ module _ {Value Op : Type 0} (m : Meaning Value Op) (config : Config) (steps : �
   copy-own i call time here c t false = record { fits = tt; accepts = omega arith; posts = omega arith }
   copy-own i call time here c t true =
       update-own i call.cid time here c t _ _ _
-      (taken-fits i call.cid (kept_spot (w.kept i) call.cid) (kept_spot-is SpotFits (w.kept i) call.cid (h.kept i)))
+      (taken-fits i call.cid (kept_at config w i call.cid) (by_known (is_known config w i call.cid)))
+    where
+      by_known : (t : Bool) → IfThere SpotFits (cond t (kept_spot (w.kept i) call.cid) None)
+      by_known true = kept_spot-is SpotFits (w.kept i) call.cid (h.kept i)
+      by_known false = tt
 
   answer-fits : (number i : ℕ) (call : LabelledCall Op) → NumberFits number → NumberFits i → CallFits call
       → OutcomeFits (answer_line m w number i call)
@@ -223,12 +228,16 @@ module _ {Value Op : Type 0} (m : Meaning Value Op) (config : Config) (steps : �
         (counts-each NumberFits (item_spots w) items-fit (w.received i) (suc config.replicas));
     log = All-from_recursion SpotFits _ (spots_of-each SpotFits w.accepted (logged config w i) h.spots);
     acks = All-from_recursion SpotFits _ (ack_spots (acked config w i) (acked-fits i));
-    calls = All-from_recursion CidFits _
-        (calls_of-each CidFits w.accepted (ready w.accepted (w.received i)) h.calls);
+    calls = All-from_recursion CidFits _ (known (calls_of w.accepted (ready w.accepted (w.received i)))
+        (calls_of-each CidFits w.accepted (ready w.accepted (w.received i)) h.calls));
     held = All-from_recursion CidFits _ (cids (w.held i) (h.held i));
     marks = All-from_recursion _ [] tt;
   }
     where
+      known : (cs : List Cid) → Each CidFits cs → Each CidFits (filter (is_known config w i) cs)
+      known cs all = each-map _ CidFits (filter (is_known config w i) cs) (λ c k. k.0)
+          (filter-each CidFits (is_known config w i) cs all)
+
       ack_spots : (acks : List LogAck) → Each (λ a. SpotFits a.spot) acks → Each SpotFits (map (λ a. a.spot) acks)
       ack_spots [] each = tt
       ack_spots (a ∷ acks) each = (each.0, ack_spots acks each.1)

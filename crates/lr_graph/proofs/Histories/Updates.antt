@@ -18,13 +18,13 @@ use Rattle.lr_base.specs.declared.names.Cid.{Cid}
 use Rattle.lr_base.specs.declared.names.Config.{Config}
 use Rattle.lr_base.specs.declared.names.Spot.{Spot}
 use Rattle.lr_graph.specs.After.{at_replica, clock_read, clock_set, note_read, replica_in, replied, with_front}
-use Rattle.lr_graph.specs.After.{accept_read, after, call_read, carried, copy_of, delivery_of, event_read, got_read, hold_read, line_read, lines_read, next_call, step_ended, stepping, take_read, handling, Handling, with_message}
+use Rattle.lr_graph.specs.After.{accept_read, after, call_read, carried, copy_of, delivery_of, event_read, got_read, hold_read, line_read, lines_read, next_call, step_ended, stepping, take_read, handling, Handling, with_message, with_sender}
 use Rattle.lr_graph.specs.Central.{facts_after}
 use Rattle.lr_graph.specs.Closed.{Each}
 use Rattle.lr_graph.specs.Graph.{Acceptance, Carried, Facts, FrontFacts, LabelledCall, SentMessage, UpdateCopy, QueryCopy, AckCopy, DoneReply, AnswerReply, GossipOf, Blank, first_facts, is_within, ready, value}
 use Rattle.lr_graph.specs.Legal.{IsLegal, LegalFrom, accept_lines, ack_lines, acknowledge_lines, answer_line, answers, answers_at, call_lines, delivery_lines, message_lines, outcomes_of, own_lines, query_lines, reply_line, resend_lines, update_lines, copy_lines}
 use Rattle.lr_graph.specs.Sets.{put_at}
-use Rattle.lr_graph.specs.Told.{acceptance_of, bare, told}
+use Rattle.lr_graph.specs.Told.{acceptance_of, bare, gathered_facts}
 use Rattle.lr_graph.specs.declared.facts.items.AcceptedUpdate.{AcceptedUpdate}
 use Rattle.lr_graph.specs.declared.facts.items.Gathered.{Gathered}
 use Rattle.lr_graph.proofs.Lists.Members.{each-from}
@@ -138,15 +138,15 @@ module _ {Value Op : Type 0} (m : Meaning Value Op) (config : Config) (P : Op �
   hold-fine w (Replica i) (GossipOf names) h = h
   hold-fine w (Replica i) Blank h = h
 
-  take-fine : (w : Facts Op) (to : Actor) (what : Carried Op) → Holds m.kind P w → Holds m.kind P (take_read w to what)
-  take-fine w (Client c) what h = h
-  take-fine w (Replica i) (UpdateCopy call time) h = h
-  take-fine w (Replica i) (QueryCopy call) h = h
-  take-fine w (Replica i) (AckCopy cid time) h = h
-  take-fine w (Replica i) (DoneReply cid names) h = h
-  take-fine w (Replica i) (AnswerReply cid names) h = h
-  take-fine w (Replica i) (GossipOf names) h = record { accepted = h.accepted; messages = h.messages; opened = h.opened }
-  take-fine w (Replica i) Blank h = h
+  take-fine : (w : Facts Op) (from to : Actor) (what : Carried Op) → Holds m.kind P w → Holds m.kind P (take_read w from to what)
+  take-fine w from (Client c) what h = h
+  take-fine w from (Replica i) (UpdateCopy call time) h = h
+  take-fine w from (Replica i) (QueryCopy call) h = h
+  take-fine w from (Replica i) (AckCopy cid time) h = h
+  take-fine w from (Replica i) (DoneReply cid names) h = h
+  take-fine w from (Replica i) (AnswerReply cid names) h = h
+  take-fine w from (Replica i) (GossipOf names) h = record { accepted = h.accepted; messages = h.messages; opened = h.opened }
+  take-fine w from (Replica i) Blank h = h
 
   got-fine : (w : Facts Op) (to : Actor) (what : Carried Op) → Holds m.kind P w → Holds m.kind P (got_read w to what)
   got-fine w (Replica i) what h = h
@@ -174,7 +174,11 @@ module _ {Value Op : Type 0} (m : Meaning Value Op) (config : Config) (P : Op �
   line-fine A x w (Accept spot cid) came other h = came-read w (accept_read w spot) (accept-fine w spot) x.came came h
   line-fine A x w (Note spot cid) came other h = came-read w (note_read w spot) (λ to what fine k. note-fine w spot to what k) x.came came h
   line-fine A x w (Hold cid) came other h = came-read w (hold_read w) (λ to what fine k. hold-fine w to what k) x.came came h
-  line-fine A x w (Take count) came other h = came-read w (take_read w) (λ to what fine k. take-fine w to what k) x.came came h
+  line-fine A x w (Take count) came other h = read x.came
+    where
+      read : (o : Option (SentMessage Op)) → Holds m.kind P (with_sender w o (take_read w))
+      read None = h
+      read (Some y) = take-fine w y.from y.to y.what h
   line-fine A x w (Got cid) came other h = came-read w (got_read w) (λ to what fine k. got-fine w to what k) x.came came h
   line-fine A x w (Stale cid) came other h = h
   line-fine A x w (ClockAt reading) came other h = read (replica_in x.actor)
@@ -385,7 +389,7 @@ module _ {Value Op : Type 0} (m : Meaning Value Op) where
   each-told kind_of kinds (a ∷ accepted) each = (ap is_query (sym (kinds a.op)) ∙ each.0, each-told kind_of kinds accepted each.1)
 
   -- what is told to be accepted after a legal history are updates
-  pub told-updates : (kind_of : Op → Kind) → ((op : Op) → m.kind op ≡ kind_of op) → (config : Config) (steps : List (Step Op)) (g : Gathered Op) → IsLegal m config steps → told g ≡ bare (facts_after m config first_facts steps) → Each (λ a. IsUpdate (kind_of a.op)) g.accepted
+  pub told-updates : (kind_of : Op → Kind) → ((op : Op) → m.kind op ≡ kind_of op) → (config : Config) (steps : List (Step Op)) (g : Gathered Op) → IsLegal m config steps → gathered_facts g ≡ bare (facts_after m config first_facts steps) → Each (λ a. IsUpdate (kind_of a.op)) g.accepted
   told-updates kind_of kinds config steps g legal is =
       each-told kind_of kinds g.accepted
       (subst (λ (accepted : List (Acceptance Op)). Each (λ a. IsUpdate (m.kind a.op)) accepted) (sym (ap (λ (w : Facts Op). w.accepted) is))

@@ -1,7 +1,7 @@
 -- How facts change, one thing at a time, and what goes on to hold of all that has a call's name and a set.
-use Rattle.std.proofs.Common.{◌≡◌, ℕ, suc, ◌≤◌, Bool, true, false, cond, ◌==◌, find, inl, inr, List, [], ◌∷◌, ◌++◌}
+use Rattle.std.proofs.Common.{◌≡◌, ℕ, suc, ◌≤◌, cond, ◌==◌, find, inl, inr, List, [], ◌∷◌, ◌++◌}
 use Rattle.std.proofs.Common.{length}
-use Rattle.std.proofs.Common.{Option, Some, None, refl, sym, ap, ◌∙◌, subst, arith, eq-eqb, eqb-true}
+use Rattle.std.proofs.Common.{Option, Some, None, refl, sym, ap, ◌∙◌, arith, eq-eqb, eqb-true}
 use Rattle.std.proofs.lemmas.List.{append_assoc}
 use Rattle.lr_base.specs.Orders.{IsAmong}
 use Rattle.lr_base.specs.declared.events.Sent.{Sent}
@@ -20,16 +20,8 @@ use Rattle.lr_graph.specs.Timed.{WasSent}
 use Rattle.lr_graph.proofs.Lists.Members.{each-map}
 use Rattle.lr_graph.proofs.Lists.Tests.{never, or-left}
 use Rattle.lr_graph.proofs.Related.Relation.{calls_in}
-use Rattle.lr_graph.proofs.Replicas.Stepping.{put-other, put-same}
-
--- what holds of the new thing and of the others holds of each
-pub put-each : {X : Type 0} (R : ℕ → X → Type 0) (i : ℕ) (x : X) (table : ℕ → X)
-    → R i x → ((j : ℕ) → R j (table j)) → (j : ℕ) → R j (put_at i x table j)
-put-each {X} R i x table new old j = by_test (j == i) refl
-  where
-    by_test : (t : Bool) → (j == i) ≡ t → R j (cond t x (table j))
-    by_test true e = subst (λ k. R k x) (sym (eqb-true j i e)) new
-    by_test false e = old j
+use Rattle.lr_graph.proofs.Sets.PutAt.{put-other, put-same}
+pub use Rattle.lr_graph.proofs.Sets.PutAt.{put-each}
 
 -- a list is another with newer elements before it
 abbrev pub Extends : {A : Type 0} → List A → List A → Type 0
@@ -264,8 +256,8 @@ module _ {Op : Type 0} (R : Rule) where
           others = λ j apart. (elsewhere (w.received i ∪ only spot) w.received j apart, refl);
         }
 
-    pub next-taken : (names : SpotSet) → IsNext (Some i) w (take_read w (Replica i) (GossipOf names))
-    next-taken names = record {
+    pub next-taken : (from : Actor) (names : SpotSet) → IsNext (Some i) w (take_read w from (Replica i) (GossipOf names))
+    next-taken from names = record {
       later = later-by ([], refl) ([], refl) (more-received names) (λ j s e. e) (λ j. omega arith);
       keeps = holds-by h.accepted h.messages h.held h.opened h.numbered;
       others = λ j apart. (elsewhere (w.received i ∪ names) w.received j apart, refl);

@@ -12,7 +12,10 @@ use Rattle.lr_graph.specs.Legal.{IsLegal, LegalFrom, IsLegalStep}
 use Rattle.lr_graph.specs.Promises.{facts_of}
 use Rattle.lr_graph.specs.Runs.{RunState, first_run}
 use Rattle.lr_graph.specs.Sets.{SpotSet, same_spot}
+use Rattle.lr_graph.specs.Timed.{IsTimed}
 use Rattle.lr_graph.proofs.Histories.Law.{first-same, step-same}
+use Rattle.lr_graph.proofs.Timed.Keeping.{changes-timed, first-timed}
+use Rattle.lr_graph.proofs.Timed.Steps.{step-changes}
 use Rattle.lr_graph.proofs.Lists.Members.{each-at, each-map}
 use Rattle.lr_graph.proofs.Lists.Tests.{same_spot-self}
 use Rattle.lr_graph.proofs.Promised.Changes.{IsLater, IsNext, Keeps, Rule, later-more, later-self}
@@ -72,6 +75,7 @@ fresh = record {
 pub record IsPoint {Value Op : Type 0} (m : Meaning Value Op) (config : Config) (w : Facts Op)
     (v : RunState Value Op) : Type 0 where
   pub same : IsSame m config w v
+  pub timed : IsTimed w
   pub keeps : Keeps fresh w
 
 module _ {Value Op : Type 0} (m : Meaning Value Op) {e : Encoding Value} (kind_of : Op → Kind) (lawful : Lawful m e kind_of)
@@ -82,6 +86,7 @@ module _ {Value Op : Type 0} (m : Meaning Value Op) {e : Encoding Value} (kind_o
   pub first-point : Point first_facts (first_run m config)
   first-point = record {
     same = first-same m config;
+    timed = first-timed;
     keeps = record { accepted = tt; messages = tt; held = λ i. tt; opened = λ client. tt; numbered = tt };
   }
 
@@ -89,10 +94,11 @@ module _ {Value Op : Type 0} (m : Meaning Value Op) {e : Encoding Value} (kind_o
       → (u : RunState Value Op) × Point (after m config w step) u
       × IsNext fresh (stepping w step.event) w (after m config w step)
   step-point w v p step legal =
-      let same = step-same m kind_of lawful config w v p.same step legal in
+      let same = step-same m kind_of lawful config w v p.same p.timed step legal in
       let next = step-next m config fresh w v p.keeps p.same (λ n cid x r f e. f)
       (λ n client cid own seq e. (let i = ap n own in omega arith, own)) step legal.outcomes (λ n cid x r f e. f) in
-      (same.0, record { same = same.1; keeps = next.keeps }, next)
+      let timed = changes-timed w (after m config w step) p.timed (step-changes m config w p.timed step legal.outcomes) in
+      (same.0, record { same = same.1; timed = timed; keeps = next.keeps }, next)
 
   -- a later point of a legal history
   pub later-point : (steps : List (Step Op)) (w : Facts Op) (v : RunState Value Op) → Point w v

@@ -30,7 +30,7 @@ use Rattle.lr_graph.proofs.Lists.Tests.{or-left, or-right, same_cid-is}
 use Rattle.lr_graph.proofs.Promised.Changes.{IsOpenFine, Keeps, Rule, holds-more}
 use Rattle.lr_graph.proofs.Promised.Points.{IsPoint, fresh, set-later, step-point}
 use Rattle.lr_graph.proofs.Promised.Walk.{IsAnswered, IsOpened, step-next}
-use Rattle.lr_graph.proofs.Related.Relation.{SameCarried, SameMessage, SameOption, calls_in}
+use Rattle.lr_graph.proofs.Related.Relation.{at_actor, SameCarried, SameMessage, SameOption, calls_in}
 use Rattle.lr_graph.proofs.Related.Relation.{same_ack, same_answer, same_done, same_gossip, same_query, same_update}
 use Rattle.lr_graph.proofs.Replicas.Stepping.{put-same}
 use Rattle.lr_graph.proofs.Sets.ReadySets.{ready-greatest, within-holds}
@@ -248,7 +248,7 @@ module _ {Value Op : Type 0} (m : Meaning Value Op) {e : Encoding Value} (kind_o
       (subst (λ o. SameOption Same o (message_at v.posted n)) found (p.same.shared.messages n))
     where
       by_what : (what : Carried Op) (message : Message Op)
-          → SameCarried m config w.accepted w.acks w.received p.same.issued (calls_in w) what message
+          → SameCarried m config w.accepted w.acks (at_actor w.received x.to) p.same.issued (calls_in w) what message
           → IsReply cid names what → IsSetOf w.accepted names
       by_what what message (same_update c d t time call times by update) is = absurd is
       by_what what message (same_query c d call by) is = absurd is

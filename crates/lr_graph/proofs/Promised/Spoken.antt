@@ -21,7 +21,8 @@ use Rattle.lr_graph.specs.After.{accepts, after, causes_of, delivery_of, lines_r
 use Rattle.lr_graph.specs.Central.{facts_after}
 use Rattle.lr_graph.specs.Closed.{Each, IsDoneAt}
 use Rattle.lr_graph.specs.Graph.{Acceptance, Carried, Facts, LabelledCall, SentMessage, UpdateCopy, QueryCopy, AckCopy}
-use Rattle.lr_graph.specs.Graph.{DoneReply, AnswerReply, GossipOf, Blank, below_of, first_facts, is_within, kept_spot}
+use Rattle.lr_graph.specs.Graph.{DoneReply, AnswerReply, GossipOf, Blank, below_of, first_facts, is_within}
+use Rattle.lr_graph.specs.Legal.{kept_at}
 use Rattle.lr_graph.specs.Graph.{ready, value}
 use Rattle.lr_graph.specs.Legal.{IsLegal, accept_lines, ack_lines, acknowledge_lines, answer_line, answers, answers_at, call_lines, delivery_lines, copy_lines}
 use Rattle.lr_graph.specs.Legal.{done_line, message_lines, next_number, next_spot, outcomes_of, own_lines, query_lines}
@@ -35,8 +36,8 @@ use Rattle.lr_graph.proofs.Lists.Tests.{same_spot-self}
 use Rattle.lr_graph.proofs.Promised.Changes.{Keeps, found-among}
 use Rattle.lr_graph.proofs.Promised.Points.{IsPoint, any-point, facts-parts, fresh, later-point}
 use Rattle.lr_graph.proofs.Promised.Points.{legal-parts, step-point}
-use Rattle.lr_graph.proofs.Promised.Walk.{after-parts, answers-send, own-next, own_read, sent-there}
-use Rattle.lr_graph.proofs.Promised.Walk.{taken-again}
+use Rattle.lr_graph.proofs.Promised.Walk.{after-parts, answers-send, own-next, own_read}
+use Rattle.lr_graph.proofs.Promised.Again.{sent-there, taken-again}
 use Rattle.lr_graph.proofs.Related.Relation.{IsSame, IsThere}
 use Rattle.lr_graph.proofs.Replicas.Own.{below_of-is}
 use Rattle.lr_graph.proofs.Handled.{came_in}
@@ -225,7 +226,7 @@ module _ {Value Op : Type 0} (m : Meaning Value Op) where
       message-said v same (Replica j) (UpdateCopy call time) there asked = by_rules (has_rules (m.kind call.op))
         where
           by_spot : (late : Bool) (o noted : Option Spot)
-              → taken_at config w j call.cid (kept_spot (w.kept j) call.cid) ≡ o
+              → taken_at config w j call.cid (kept_at config w j call.cid) ≡ o
               → Said (came (Replica j) (UpdateCopy call time) (update_lines config w j call.cid time late o noted))
               (update_lines config w j call.cid time late o noted)
           by_spot true o noted e = (tt, tt)
@@ -239,7 +240,7 @@ module _ {Value Op : Type 0} (m : Meaning Value Op) where
           by_rules : (rules : Bool) → Said (came (Replica j) (UpdateCopy call time) (copy_lines config w j call time rules))
               (copy_lines config w j call time rules)
           by_rules false = tt
-          by_rules true = by_spot _ (taken_at config w j call.cid (kept_spot (w.kept j) call.cid)) _ refl
+          by_rules true = by_spot _ (taken_at config w j call.cid (kept_at config w j call.cid)) _ refl
       message-said v same (Replica j) (QueryCopy call) there asked = query-said j call _ _ asked
       message-said v same (Replica j) (AckCopy c time) there asked = by_spot _ _ _
         where

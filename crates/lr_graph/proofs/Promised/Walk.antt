@@ -1,21 +1,16 @@
 -- What a legal step changes, and what goes on to hold.
-use Rattle.std.proofs.Common.{◌≡◌, ◌^◌, ℕ, suc, ◌<◌, max, Bool, true, false, cond, ◌==◌, not, filter, find, inl}
+use Rattle.std.proofs.Common.{◌≡◌, ◌^◌, ℕ, suc, max, Bool, true, false, cond, ◌==◌, not, filter, find, inl}
 use Rattle.std.proofs.Common.{List, [], ◌∷◌, ◌++◌, length, Option, Some, None, refl, sym, ap, ◌∙◌, subst, arith}
 use Rattle.std.proofs.lemmas.List.{append_assoc}
-use Rattle.std.specs.Option.{option_map}
 use Rattle.lr_base.specs.Ascending.{same_cid}
 use Rattle.lr_base.specs.Kinds.{is_query, has_rules}
 use Rattle.lr_base.specs.Meaning.{Meaning}
-use Rattle.lr_base.specs.Orders.{IsAmong}
-use Rattle.lr_base.specs.Rules.{known_of}
-use Rattle.lr_base.specs.declared.acts.Posted.{Posted}
 use Rattle.lr_base.specs.declared.events.Event.{Event}
 use Rattle.lr_base.specs.declared.events.Event.TheVariants.{Call, Resend, Ack as AckEvent, Deliver, Tick, Gossip as GossipEvent, Show}
 use Rattle.lr_base.specs.declared.events.Outcome.{Outcome}
 use Rattle.lr_base.specs.declared.events.Outcome.TheVariants.{Got, Send, Stale}
 use Rattle.lr_base.specs.declared.events.Sent.TheVariants.{Update, Query, Ack, Done, Answer, Gossip}
 use Rattle.lr_base.specs.declared.events.Step.{Step}
-use Rattle.lr_base.specs.declared.messages.Known.{Known}
 use Rattle.lr_base.specs.declared.names.Actor.{Actor}
 use Rattle.lr_base.specs.declared.names.Actor.TheVariants.{Client, Replica}
 use Rattle.lr_base.specs.declared.names.Cid.{Cid}
@@ -27,24 +22,24 @@ use Rattle.lr_graph.specs.After.{got_read, replied, step_ended, stepping, takes_
 use Rattle.lr_graph.specs.Closed.{Each, HasApartSpots}
 use Rattle.lr_graph.specs.Graph.{Acceptance, Carried, Facts, FrontFacts, LabelledCall, SentMessage}
 use Rattle.lr_graph.specs.Graph.{UpdateCopy, QueryCopy, AckCopy, DoneReply, AnswerReply, GossipOf, Blank}
-use Rattle.lr_graph.specs.Graph.{below_of, is_within, kept_spot, ready}
-use Rattle.lr_graph.specs.Legal.{accept_lines, ack_lines, acknowledge_lines, answer_line, answers, answers_at, call_lines, copy_line, delivery_lines, logged, copy_lines}
+use Rattle.lr_graph.specs.Graph.{below_of, is_within, ready}
+use Rattle.lr_graph.specs.Legal.{accept_lines, ack_lines, acknowledge_lines, answer_line, answers, answers_at, call_lines, copy_line, delivery_lines, copy_lines}
 use Rattle.lr_graph.specs.Legal.{message_lines, next_number, next_spot, outcomes_of, own_lines, query_lines, reply_line, resend_lines}
 use Rattle.lr_graph.specs.Legal.{taken_at, update_lines}
-use Rattle.lr_graph.specs.Runs.{RunState, message_at}
+use Rattle.lr_graph.specs.Runs.{RunState}
 use Rattle.lr_graph.specs.Sets.{SpotSet, put_at, only, ◌∪◌}
 use Rattle.lr_graph.specs.Timed.{WasSent}
+use Rattle.lr_graph.specs.Legal.{kept_at}
+use Rattle.lr_graph.proofs.Promised.Again.{IsDone, sent-there, taken-again}
 use Rattle.lr_graph.proofs.Lists.Members.{each-append, each-at, each-map, filter-each, find-some}
 use Rattle.lr_graph.proofs.Lists.Tests.{or-left, same_spot-self}
 use Rattle.lr_graph.proofs.Promised.Changes.{IsFine, IsHeldFine, IsNext, Keeps, Rule, opened-more}
 use Rattle.lr_graph.proofs.Promised.Changes.{query-fine, update-fine}
 use Rattle.lr_graph.proofs.Promised.Changes.{next-accepted, next-front, next-holding, next-more, next-same, next-sent}
 use Rattle.lr_graph.proofs.Promised.Changes.{next-clock, next-noted, next-taken}
-use Rattle.lr_graph.proofs.Related.Relation.{IsSame, IsThere, SameMessage, SameOption, calls_in}
-use Rattle.lr_graph.proofs.Related.Ties.{IsTableOf}
+use Rattle.lr_graph.proofs.Related.Relation.{IsSame, IsThere, calls_in}
 use Rattle.lr_graph.proofs.Replicas.Own.{below_of-is}
 use Rattle.lr_graph.proofs.Replicas.Stepping.{lines_read-append}
-use Rattle.lr_graph.proofs.Sets.KeptSpots.{least_spot-is}
 use Rattle.lr_graph.proofs.Handled.{alone, came_in, receiving}
 
 -- ---- the end of a replica's step
@@ -107,52 +102,6 @@ module _ {Value Op : Type 0} (m : Meaning Value Op) (config : Config) (w : Facts
           after-parts ∙ ap (λ o. step_ended m config o (lines_read m config x mid (answers_at m mid o))) e
               ∙ ap (λ (u : Facts Op). end_read u i) sent.1,
         )
-
--- ---- an update that was taken before
-
--- a replica took a call at an acceptance of it
-abbrev pub IsDone : {Op : Type 0} → List (Acceptance Op) → Cid → Spot → Type 0
-IsDone {Op} l cid spot = (a : Acceptance Op) × IsAmong a l × (a.cid ≡ cid) × (a.spot ≡ spot)
-
-module _ {Value Op : Type 0} (m : Meaning Value Op) (config : Config) (w : Facts Op) (v : RunState Value Op)
-    (same : IsSame m config w v) where
-  pub taken-again : (i : ℕ) → i < config.replicas → (cid : Cid) (spot : Spot)
-      → taken_at config w i cid (kept_spot (w.kept i) cid) ≡ Some spot → IsDone w.accepted cid spot
-  taken-again i here cid spot e = by_kept (kept_spot (w.kept i) cid) refl e
-    where
-      none_some : ◌≡◌ {A = Option Spot} None (Some spot) → ⊥
-      none_some e = cc
-
-      by_kept : (o : Option Spot) → kept_spot (w.kept i) cid ≡ o → taken_at config w i cid o ≡ Some spot
-          → IsDone w.accepted cid spot
-      by_kept None kept e =
-          let a = least_spot-is w.accepted (logged config w i) cid spot e in
-          (a.0, a.1, a.3, a.4)
-      by_kept (Some s) kept e = let tied = same.replicas i here in by_table tied.0.calls tied.2.applied.table
-        where
-          by_table : (calls : List (Cid × Known))
-              → IsTableOf w.accepted (ready w.accepted (w.received i)) (w.kept i) calls → IsDone w.accepted cid spot
-          by_table calls table = by_known (known_of calls cid) refl (table.spots cid ∙ kept ∙ e)
-            where
-              by_known : (o : Option Known) → known_of calls cid ≡ o → option_map (λ k. k.spot) o ≡ Some spot
-                  → IsDone w.accepted cid spot
-              by_known None known e = absurd (none_some e)
-              by_known (Some k) known e =
-                  let a = table.stamps cid k known in
-                  let is : k.spot ≡ spot = cc in
-                  (a.0, a.1, a.3, sym a.2 ∙ is)
-
-  -- a message was sent to somebody
-  pub sent-there : (n : ℕ) (x : SentMessage Op) → find (λ x. x.number == n) w.messages ≡ Some x → IsThere config x.to
-  sent-there n x e =
-      there (message_at v.posted n) (subst (λ o. SameOption Same o (message_at v.posted n)) e (same.shared.messages n))
-    where
-      Same : SentMessage Op → Posted Op → Type 0
-      Same x p = SameMessage m config w.accepted w.acks w.received same.issued (calls_in w) x p
-
-      there : (p : Option (Posted Op)) → SameOption Same (Some x) p → IsThere config x.to
-      there None s = absurd s
-      there (Some p) s = s.there
 
 -- ---- a rule goes on to hold
 
@@ -259,7 +208,7 @@ module _ {Value Op : Type 0} (m : Meaning Value Op) (config : Config) (R : Rule)
       message-next number from (Replica i) (UpdateCopy call time) here fine sent = by_rules (has_rules (m.kind call.op))
         where
           by_spot : (late : Bool) (o noted : Option Spot)
-              → taken_at config w i call.cid (kept_spot (w.kept i) call.cid) ≡ o
+              → taken_at config w i call.cid (kept_at config w i call.cid) ≡ o
               → Next (Some i) w
               (lines_read m config (came_in (Some (message i number from call fine (UpdateCopy call time)))) w
               (update_lines config w i call.cid time late o noted))
@@ -274,7 +223,7 @@ module _ {Value Op : Type 0} (m : Meaning Value Op) (config : Config) (R : Rule)
               (lines_read m config (came_in (Some (message i number from call fine (UpdateCopy call time)))) w
               (copy_lines config w i call time rules))
           by_rules false = next-same R (Some i) w h
-          by_rules true = by_spot _ (taken_at config w i call.cid (kept_spot (w.kept i) call.cid)) _ refl
+          by_rules true = by_spot _ (taken_at config w i call.cid (kept_at config w i call.cid)) _ refl
       message-next number from (Replica i) (QueryCopy call) here fine sent =
           query-next i number from call fine _ _ answered sent refl
       message-next number from (Replica i) (AckCopy cid time) here fine sent = by_spot _ _ _
@@ -288,7 +237,7 @@ module _ {Value Op : Type 0} (m : Meaning Value Op) (config : Config) (R : Rule)
           by_spot None true true = next-noted R i w h (next_spot w i) cid time
       message-next number from (Replica i) (DoneReply cid names) here fine sent = next-same R (Some i) w h
       message-next number from (Replica i) (AnswerReply cid names) here fine sent = next-same R (Some i) w h
-      message-next number from (Replica i) (GossipOf names) here fine sent = next-taken R i w h names
+      message-next number from (Replica i) (GossipOf names) here fine sent = next-taken R i w h from names
       message-next number from (Replica i) Blank here fine sent = next-same R (Some i) w h
       message-next number from (Client c) (UpdateCopy call time) here fine sent = next-same R None w h
       message-next number from (Client c) (QueryCopy call) here fine sent = next-same R None w h

@@ -11,6 +11,7 @@ use Rattle.lr_base.specs.declared.messages.Known.{Known}
 use Rattle.lr_base.specs.declared.messages.LogAck.{LogAck}
 use Rattle.lr_base.specs.declared.messages.LogUpdate.{LogUpdate}
 use Rattle.lr_base.specs.declared.messages.Message.{Message}
+use Rattle.lr_base.specs.declared.names.Actor.{Actor}
 use Rattle.lr_base.specs.declared.names.Cid.{Cid}
 use Rattle.lr_base.specs.declared.names.Config.{Config}
 use Rattle.lr_base.specs.declared.names.Spot.{Spot}
@@ -19,7 +20,7 @@ use Rattle.lr_graph.specs.Graph.{Acceptance, Carried, Kept, LabelledCall, SentMe
 use Rattle.lr_graph.specs.Sets.{SpotSet, same_spot}
 use Rattle.lr_graph.proofs.Lists.Members.{each-at, each-from, each-map}
 use Rattle.lr_graph.proofs.Sets.ReadySets.{below-accepted, ready-holds}
-use Rattle.lr_graph.proofs.Related.Relation.{IsIssued, IsReplicaAt, SameCall, SameCarried, SameGossip, SameHeld, SameList}
+use Rattle.lr_graph.proofs.Related.Relation.{at_actor, IsIssued, IsReplicaAt, SameCall, SameCarried, SameGossip, SameHeld, SameList}
 use Rattle.lr_graph.proofs.Related.Relation.{SameMessage, SameOption, same_ack, same_answer, same_done, same_gossip}
 use Rattle.lr_graph.proofs.Related.Relation.{same_query, same_update}
 use Rattle.lr_graph.proofs.Lists.Tests.{never}
@@ -39,26 +40,26 @@ module _ {Value Op : Type 0} (m : Meaning Value Op) (config : Config) {l more : 
     (set_more : (x : SpotSet) → IsSetOf l x → IsSetOf more x)
     (done_more : (cid : Cid) (spot : Spot) (x : SpotSet) → IsDoneAt l cid spot x → IsDoneAt more cid spot x)
     (issued_more : (c : LabelledCall Op) → IsIssued config.clients issued calls c → IsIssued config.clients given after c)
-    (gossip_more : (x : SpotSet) (g : Gossip Op) → SameGossip config.replicas l acks received x g
-    → SameGossip config.replicas more new next x g) where
-  carried-more : (x : Carried Op) (p : Message Op) → SameCarried m config l acks received issued calls x p
-      → SameCarried m config more new next given after x p
-  carried-more x p (same_update c d t time call times by update) =
+    (gossip_more : (to : Actor) (x : SpotSet) (g : Gossip Op) → SameGossip config.replicas l acks (at_actor received to) x g
+    → SameGossip config.replicas more new (at_actor next to) x g) where
+  carried-more : (to : Actor) (x : Carried Op) (p : Message Op) → SameCarried m config l acks (at_actor received to) issued calls x p
+      → SameCarried m config more new (at_actor next to) given after x p
+  carried-more to x p (same_update c d t time call times by update) =
       same_update c d t time (call_more c d call) times (issued_more c by) update
-  carried-more x p (same_query c d call by) = same_query c d (call_more c d call) (issued_more c by)
-  carried-more x p (same_ack cid other t time cids times client) = same_ack cid other t time cids times client
-  carried-more x p (same_done cid other names spot stamp cids named set done) =
+  carried-more to x p (same_query c d call by) = same_query c d (call_more c d call) (issued_more c by)
+  carried-more to x p (same_ack cid other t time cids times client) = same_ack cid other t time cids times client
+  carried-more to x p (same_done cid other names spot stamp cids named set done) =
       same_done cid other names spot stamp cids named (set_more names set) (done_more cid spot names done)
-  carried-more x p (same_answer cid other names text stamp cids named set) =
+  carried-more to x p (same_answer cid other names text stamp cids named set) =
       same_answer cid other names text stamp cids named (set_more names set)
-  carried-more x p (same_gossip names g h) = same_gossip names g (gossip_more names g h)
+  carried-more to x p (same_gossip names g h) = same_gossip names g (gossip_more to names g h)
 
   pub message-more : (o : Option (SentMessage Op)) (p : Option (Posted Op))
       → SameOption (SameMessage m config l acks received issued calls) o p
       → SameOption (SameMessage m config more new next given after) o p
   message-more None None h = tt
   message-more (Some x) (Some p) h =
-      record { from = h.from; to = h.to; way = h.way; there = h.there; what = carried-more x.what p.message h.what }
+      record { from = h.from; to = h.to; way = h.way; there = h.there; what = carried-more x.to x.what p.message h.what }
   message-more _ _ h = absurd h
 
 -- tests that agree on each element find alike
@@ -116,18 +117,19 @@ module _ {Op : Type 0} (l : List (Acceptance Op)) (a : Acceptance Op) (fresh : I
     ascending = log.ascending;
   }
 
-  pub table-more : (x : SpotSet) (kept : List Kept) (calls : List (Cid × Known)) → x a.spot ≡ false → IsTableOf l x kept calls → IsTableOf (a ∷ l) x kept calls
-  table-more x kept calls out table = record {
+  pub table-more : (x : SpotSet) (left : Cid → Bool) (kept : List Kept) (calls : List (Cid × Known)) → x a.spot ≡ false → IsTableOf l x left kept calls → IsTableOf (a ∷ l) x left kept calls
+  table-more x left kept calls out table = record {
     spots = table.spots;
-    known = λ cid. table.known cid ∙ sym (has_call-more x cid out);
+    known = λ cid. table.known cid ∙ ap (λ b. b && not (left cid)) (sym (has_call-more x cid out));
+    were = λ cid gone. has_call-more x cid out ∙ table.were cid gone;
     stamps = λ cid k e. (let b = table.stamps cid k e in (b.0, inr b.1, b.2, b.3, b.4));
   }
 
-  pub applied-more : {Value : Type 0} (m : Meaning Value Op) (x : SpotSet) (kept : List Kept) (state : CausalState Value Op) → x a.spot ≡ false → HasApplied m l x kept state → HasApplied m (a ∷ l) x kept state
-  applied-more m x kept state out h = record {
+  pub applied-more : {Value : Type 0} (m : Meaning Value Op) (x : SpotSet) (left : Cid → Bool) (kept : List Kept) (state : CausalState Value Op) → x a.spot ≡ false → HasApplied m l x left kept state → HasApplied m (a ∷ l) x left kept state
+  applied-more m x left kept state out h = record {
     names = h.names;
     value_is = h.value_is ∙ sym (value-more m x out);
-    table = table-more x kept state.calls out h.table;
+    table = table-more x left kept state.calls out h.table;
   }
 
   pub call-more : IsSound l → (c : LabelledCall Op) (d : Call Op) → SameCall l c d → SameCall (a ∷ l) c d
@@ -136,10 +138,10 @@ module _ {Op : Type 0} (l : List (Acceptance Op)) (a : Acceptance Op) (fresh : I
   pub held-more : IsSound l → (clients : ℕ) (cs : List (LabelledCall Op)) (ds : List (Call Op)) → SameList (SameHeld clients l) cs ds → SameList (SameHeld clients (a ∷ l)) cs ds
   held-more sound clients cs ds h = same-list _ _ (λ c d k. record { call = call-more sound c d k.call; client = k.client }) cs ds h
 
-  -- a replica that didn't receive the new one
-  pub replica-more : {Value : Type 0} (m : Meaning Value Op) (config : Config) → IsSound l → (r g : SpotSet) (kept : List Kept) (held : List (LabelledCall Op)) (state : CausalState Value Op)
-      → r a.spot ≡ false → IsReplicaAt m config l r g kept held state → IsReplicaAt m config (a ∷ l) r g kept held state
-  replica-more m config sound r g kept held state out h =
+  -- a replica that didn't receive the new one, which is of no call that left there
+  pub replica-more : {Value : Type 0} (m : Meaning Value Op) (config : Config) → IsSound l → (r g : SpotSet) (left : Cid → Bool) (kept : List Kept) (held : List (LabelledCall Op)) (state : CausalState Value Op)
+      → r a.spot ≡ false → left a.cid ≡ false → IsReplicaAt m config l r g left kept held state → IsReplicaAt m config (a ∷ l) r g left kept held state
+  replica-more m config sound r g left kept held state out stays h =
       let none : g a.spot ≡ false = never _ (λ e. true≢false (sym (h.within a.spot e) ∙ out)) in
       let not_ready : ready l r a.spot ≡ false = not-ready r in
       let same : ready l r ≡ ready (a ∷ l) r = λ i s. sym (ready-more sound r out s) i in
@@ -151,7 +153,12 @@ module _ {Op : Type 0} (l : List (Acceptance Op)) (a : Acceptance Op) (fresh : I
           each-map _ _ l (λ b f here unready. f here (sym (ready-more sound r out b.spot) ∙ unready)) h.covered,
         );
         within = h.within;
-        applied = subst (λ (x : SpotSet). HasApplied m (a ∷ l) x kept state) same (applied-more m (ready l r) kept state not_ready h.applied);
+        over = (
+          (λ gone. absurd (true≢false (sym gone ∙ stays))),
+          each-map _ _ l (λ b f gone. ready-more sound r out b.spot ∙ f gone) h.over,
+        );
+        kept_are = λ cid has. h.kept_are cid (sym (has_call-more (ready l r) cid not_ready) ∙ ap (λ (x : SpotSet). has_call (a ∷ l) x cid) same ∙ has);
+        applied = subst (λ (x : SpotSet). HasApplied m (a ∷ l) x left kept state) same (applied-more m (ready l r) left kept state not_ready h.applied);
         still = h.still;
         held_are = held-more sound config.clients held state.held h.held_are;
       }

@@ -1,5 +1,5 @@
 -- How a run by the rules and the facts of its history belong together.
-use Rattle.std.proofs.Common.{◌≡◌, ◌<◌, ◌≤◌, ◌+◌, ◌==◌, ◌++◌, ℕ, true, false, List, [], ◌∷◌, length, map, find, Option, Some, None}
+use Rattle.std.proofs.Common.{◌≡◌, ◌<◌, ◌≤◌, ◌+◌, ◌==◌, ◌++◌, ℕ, Bool, true, false, List, [], ◌∷◌, length, map, find, get_or, Option, Some, None, is_some}
 use Rattle.std.specs.List.{slice_get}
 use Rattle.lr_base.specs.Calls.{AreByCall}
 use Rattle.lr_base.specs.Fronts.{FrontState}
@@ -21,11 +21,12 @@ use Rattle.lr_base.specs.declared.names.Cid.{Cid}
 use Rattle.lr_base.specs.declared.names.Config.{Config}
 use Rattle.lr_base.specs.declared.names.Spot.{Spot}
 use Rattle.lr_graph.specs.Closed.{Each, IsSetOf, IsSound, causes, IsDoneAt}
-use Rattle.lr_graph.specs.Graph.{Acceptance, AckCopy, AnswerReply, GossipOf, Carried, DoneReply, Facts, FrontFacts, Kept, LabelledCall, QueryCopy, SentMessage, UpdateCopy, acks_of, item_spots, ready}
-use Rattle.lr_graph.specs.Legal.{logged}
+use Rattle.lr_graph.specs.Graph.{Acceptance, AckCopy, AnswerReply, GossipOf, Carried, DoneReply, Facts, FrontFacts, Kept, LabelledCall, QueryCopy, SentMessage, UpdateCopy, acks_of, has_call, item_spots, kept_spot, ready}
 use Rattle.lr_graph.specs.Names.{IsCounted, Names}
 use Rattle.lr_graph.specs.Runs.{RunState, message_at}
-use Rattle.lr_graph.specs.Sets.{SpotSet}
+use Rattle.lr_graph.specs.Sets.{SpotSet, nothing}
+use Rattle.lr_graph.specs.Spread.{IsSpread}
+use Rattle.lr_graph.specs.Pruned.{is_acked, is_left, logged, told_by}
 use Rattle.lr_graph.proofs.Logs.Items.{AreApart}
 use Rattle.lr_graph.proofs.Related.Ties.{HasApplied, IsLogOf}
 
@@ -60,26 +61,33 @@ pub record IsIssued {Op : Type 0} (clients : ℕ) (issued : Cid → Option (Labe
 abbrev pub spots_in : {Op : Type 0} → List (Acceptance Op) → List LogAck → List Spot
 spots_in l acks = map (λ a. a.spot) l ++ map (λ a. a.spot) acks
 
--- gossip counts the items that it names; its log has some of the acceptances, and the rest were received everywhere; and
--- it has all acknowledgements
-pub record SameGossip {Op : Type 0} (replicas : ℕ) (l : List (Acceptance Op)) (acks : List LogAck) (received : ℕ → SpotSet) (names : SpotSet) (g : Gossip Op) : Type 0 where
+-- gossip counts the items that it names; it has some of them, and the rest were received there, where it goes
+pub record SameGossip {Op : Type 0} (replicas : ℕ) (l : List (Acceptance Op)) (acks : List LogAck) (there names : SpotSet) (g : Gossip Op) : Type 0 where
   pub logs : SpotSet
   pub counted : IsCounted names g.rep_ts
   pub exist : (s : Spot) → names s ≡ true → IsAmong s (spots_in l acks)
   pub log : IsLogOf l logs g.updates
   pub within : (s : Spot) → logs s ≡ true → names s ≡ true
-  pub elsewhere : (s : Spot) → names s ≡ true → logs s ≡ false → (j : ℕ) → j < replicas → received j s ≡ true
-  pub acks_are : g.acks ≡ acks_of (λ a. names a.spot) acks
+  pub elsewhere : (s : Spot) → names s ≡ true → logs s ≡ false → there s ≡ true
+  pub ack_logs : LogAck → Bool
+  pub acks_are : g.acks ≡ acks_of ack_logs acks
+  pub acks_within : Each (λ a. ack_logs a ≡ true → names a.spot ≡ true) acks
+  pub acks_elsewhere : Each (λ a. names a.spot ≡ true → ack_logs a ≡ false → there a.spot ≡ true) acks
   pub parts : length g.rep_ts ≡ replicas + 1
 
--- a message of the rules carries what this one of the graph does
-pub data SameCarried {Value Op : Type 0} (m : Meaning Value Op) (config : Config) (l : List (Acceptance Op)) (acks : List LogAck) (received : ℕ → SpotSet) (issued : Cid → Option (LabelledCall Op)) (calls : ℕ → ℕ) : Carried Op → Message Op → Type 0 where
-  same_update : (c : LabelledCall Op) (d : Call Op) (t time : ℕ) → SameCall l c d → t ≡ time → IsIssued config.clients issued calls c → IsUpdate (m.kind c.op) → SameCarried m config l acks received issued calls (UpdateCopy c t) (Update d time)
-  same_query : (c : LabelledCall Op) (d : Call Op) → SameCall l c d → IsIssued config.clients issued calls c → SameCarried m config l acks received issued calls (QueryCopy c) (Query d)
-  same_ack : (cid other : Cid) (t time : ℕ) → cid ≡ other → t ≡ time → cid.client < config.clients → SameCarried m config l acks received issued calls (AckCopy cid t) (Ack other time)
-  same_done : (cid other : Cid) (names : SpotSet) (spot : Spot) (stamp : List ℕ) → cid ≡ other → Names stamp names → IsSetOf l names → IsDoneAt l cid spot names → SameCarried m config l acks received issued calls (DoneReply cid names) (Done other spot stamp)
-  same_answer : (cid other : Cid) (names : SpotSet) (text stamp : List ℕ) → cid ≡ other → Names stamp names → IsSetOf l names → SameCarried m config l acks received issued calls (AnswerReply cid names) (Answer other text stamp)
-  same_gossip : (names : SpotSet) (g : Gossip Op) → SameGossip config.replicas l acks received names g → SameCarried m config l acks received issued calls (GossipOf names) (GossipMessage g)
+-- what was received at an actor: nothing at a front end
+abbrev pub at_actor : (ℕ → SpotSet) → Actor → SpotSet
+at_actor received (Replica i) = received i
+at_actor received (Client client) = nothing
+
+-- a message of the rules carries what this one of the graph does, to where this was received
+pub data SameCarried {Value Op : Type 0} (m : Meaning Value Op) (config : Config) (l : List (Acceptance Op)) (acks : List LogAck) (there : SpotSet) (issued : Cid → Option (LabelledCall Op)) (calls : ℕ → ℕ) : Carried Op → Message Op → Type 0 where
+  same_update : (c : LabelledCall Op) (d : Call Op) (t time : ℕ) → SameCall l c d → t ≡ time → IsIssued config.clients issued calls c → IsUpdate (m.kind c.op) → SameCarried m config l acks there issued calls (UpdateCopy c t) (Update d time)
+  same_query : (c : LabelledCall Op) (d : Call Op) → SameCall l c d → IsIssued config.clients issued calls c → SameCarried m config l acks there issued calls (QueryCopy c) (Query d)
+  same_ack : (cid other : Cid) (t time : ℕ) → cid ≡ other → t ≡ time → cid.client < config.clients → SameCarried m config l acks there issued calls (AckCopy cid t) (Ack other time)
+  same_done : (cid other : Cid) (names : SpotSet) (spot : Spot) (stamp : List ℕ) → cid ≡ other → Names stamp names → IsSetOf l names → IsDoneAt l cid spot names → SameCarried m config l acks there issued calls (DoneReply cid names) (Done other spot stamp)
+  same_answer : (cid other : Cid) (names : SpotSet) (text stamp : List ℕ) → cid ≡ other → Names stamp names → IsSetOf l names → SameCarried m config l acks there issued calls (AnswerReply cid names) (Answer other text stamp)
+  same_gossip : (names : SpotSet) (g : Gossip Op) → SameGossip config.replicas l acks there names g → SameCarried m config l acks there issued calls (GossipOf names) (GossipMessage g)
 
 -- such a message goes from such an actor to such a one: gossip from a replica to another
 abbrev pub IsWay : {Op : Type 0} → Actor → Actor → Carried Op → Type 0
@@ -102,7 +110,7 @@ pub record SameMessage {Value Op : Type 0} (m : Meaning Value Op) (config : Conf
   pub to : x.to ≡ p.to
   pub way : IsWay x.from x.to x.what
   pub there : IsThere config x.to
-  pub what : SameCarried m config l acks received issued calls x.what p.message
+  pub what : SameCarried m config l acks (at_actor received x.to) issued calls x.what p.message
 
 -- ---- front ends
 
@@ -163,6 +171,7 @@ pub record IsShared {Value Op : Type 0} (m : Meaning Value Op) (config : Config)
   pub numbered : Each (λ s. 0 < s.number) (item_spots w)
   pub own : (s : Spot) → IsAmong s (item_spots w) → w.received s.place s ≡ true
   pub exist : (i : ℕ) (s : Spot) → w.received i s ≡ true → IsAmong s (item_spots w)
+  pub spread : IsSpread config w
   pub fronts_are : (client : ℕ) → client < config.clients → HasFront w.accepted fronts client (w.front client)
   pub opened : (client : ℕ) → IsOpen config.clients issued (calls_in w) (w.front client).open_call
   pub count : length w.messages ≡ length posted
@@ -176,23 +185,33 @@ pub record IsStill {Value Op : Type 0} (config : Config) (state : CausalState Va
   pub parts : length state.rep_ts ≡ config.replicas + 1
   pub keys : AreByCall state.calls
 
--- a replica's clock is that of the facts, and its acknowledgements are those that it received, in the order of spots
-pub record HasNoted {Value Op : Type 0} (acks : List LogAck) (r : SpotSet) (clock : ℕ) (state : CausalState Value Op) : Type 0 where
+-- a replica's table has a row for each replica, and each counts what that one told
+pub record HasTold {Value Op : Type 0} (replicas : ℕ) (told : ℕ → SpotSet) (state : CausalState Value Op) : Type 0 where
+  pub rows : length state.table ≡ replicas
+  pub counted : (k : ℕ) → k < replicas → IsCounted (told k) (get_or state.table k [])
+
+-- a replica's clock is that of the facts, its acknowledgements are those of the test, in the order of spots, and it was told
+-- this
+pub record HasNoted {Value Op : Type 0} (replicas : ℕ) (acks : List LogAck) (logs : LogAck → Bool) (clock : ℕ) (told : ℕ → SpotSet) (state : CausalState Value Op) : Type 0 where
   pub clock_is : state.clock ≡ clock
-  pub acks_are : state.acks ≡ acks_of (λ a. r a.spot) acks
+  pub acks_are : state.acks ≡ acks_of logs acks
+  pub rows : HasTold replicas told state
 
 -- a held query, of a client that there is
 pub record SameHeld {Op : Type 0} (clients : ℕ) (l : List (Acceptance Op)) (c : LabelledCall Op) (d : Call Op) : Type 0 where
   pub call : SameCall l c d
   pub client : c.cid.client < clients
 
--- a replica between two steps: all that is ready is applied, and the log has what it is to have
-pub record IsReplicaAt {Value Op : Type 0} (m : Meaning Value Op) (config : Config) (l : List (Acceptance Op)) (r g : SpotSet) (kept : List Kept) (held : List (LabelledCall Op)) (state : CausalState Value Op) : Type 0 where
+-- a replica between two steps: all that is ready is applied, the log has what it is to have, and all acceptances of a call
+-- that left are ready
+pub record IsReplicaAt {Value Op : Type 0} (m : Meaning Value Op) (config : Config) (l : List (Acceptance Op)) (r g : SpotSet) (left : Cid → Bool) (kept : List Kept) (held : List (LabelledCall Op)) (state : CausalState Value Op) : Type 0 where
   pub counted : IsCounted r state.rep_ts
   pub log : IsLogOf l g state.updates
   pub covered : Each (λ a. r a.spot ≡ true → ready l r a.spot ≡ false → g a.spot ≡ true) l
   pub within : (s : Spot) → g s ≡ true → r s ≡ true
-  pub applied : HasApplied m l (ready l r) kept state
+  pub over : Each (λ a. left a.cid ≡ true → ready l r a.spot ≡ true) l
+  pub kept_are : (cid : Cid) → has_call l (ready l r) cid ≡ true → is_some (kept_spot kept cid) ≡ true
+  pub applied : HasApplied m l (ready l r) left kept state
   pub still : IsStill config state
   pub held_are : SameList (SameHeld config.clients l) held state.held
 
@@ -208,8 +227,8 @@ pub record HasReplica {Value Op : Type 0} (config : Config) (replicas : List (Re
 abbrev pub IsTied : {Value Op : Type 0} → Meaning Value Op → Config → Facts Op → List (ReplicaState Value Op) → ℕ → Type 0
 IsTied {Value} {Op} m config w replicas i =
     (state : CausalState Value Op) × HasReplica config replicas i state
-    × IsReplicaAt m config w.accepted (w.received i) (logged config w i) (w.kept i) (w.held i) state
-    × HasNoted w.acks (w.received i) (w.clock i) state
+    × IsReplicaAt m config w.accepted (w.received i) (logged config w i) (is_left config w i) (w.kept i) (w.held i) state
+    × HasNoted config.replicas w.acks (is_acked config w i) (w.clock i) (told_by w i) state
 
 -- a run and the facts of its history
 pub record IsSame {Value Op : Type 0} (m : Meaning Value Op) (config : Config) (w : Facts Op) (v : RunState Value Op) : Type 0 where

@@ -1,5 +1,5 @@
 -- How a replica's state and its part of the graph belong together.
-use Rattle.std.proofs.Common.{◌≡◌, ◌<◌, true, false, List, Some, is_some}
+use Rattle.std.proofs.Common.{◌≡◌, ◌<◌, Bool, true, false, not, ◌&&◌, List, Some, is_some}
 use Rattle.std.specs.Option.{option_map}
 use Rattle.lr_base.specs.Ascending.{is_before}
 use Rattle.lr_base.specs.Insertion.{Ascends}
@@ -53,24 +53,26 @@ pub record IsLogOf {Op : Type 0} (l : List (Acceptance Op)) (g : SpotSet) (us : 
   pub all : Each (λ a. g a.spot ≡ true → HasUpdateAt a.spot us) l
   pub ascending : IsAscending us
 
--- the table has the calls of the set x, at the spots that are kept of them, and with their stamps
-pub record IsTableOf {Op : Type 0} (l : List (Acceptance Op)) (x : SpotSet) (kept : List Kept) (calls : List (Cid × Known)) : Type 0 where
-  pub spots : (cid : Cid) → option_map (λ k. k.spot) (known_of calls cid) ≡ kept_spot kept cid
-  pub known : (cid : Cid) → is_some (known_of calls cid) ≡ has_call l x cid
+-- the table has the calls of the set x but for those that left, at the spots that are kept of them, and with their stamps
+pub record IsTableOf {Op : Type 0} (l : List (Acceptance Op)) (x : SpotSet) (left : Cid → Bool) (kept : List Kept) (calls : List (Cid × Known)) : Type 0 where
+  pub spots : (cid : Cid) → left cid ≡ false → option_map (λ k. k.spot) (known_of calls cid) ≡ kept_spot kept cid
+  pub known : (cid : Cid) → is_some (known_of calls cid) ≡ (has_call l x cid && not (left cid))
+  pub were : (cid : Cid) → left cid ≡ true → has_call l x cid ≡ true
   pub stamps : (cid : Cid) (k : Known) → known_of calls cid ≡ Some k → (a : Acceptance Op) × IsAmong a l × (k.spot ≡ a.spot) × (a.cid ≡ cid) × Names k.stamp a.below
 
 -- a state to which the acceptances of the set x are applied: its stamp, its value and its table are theirs
-pub record HasApplied {Value Op : Type 0} (m : Meaning Value Op) (l : List (Acceptance Op)) (x : SpotSet) (kept : List Kept) (state : CausalState Value Op) : Type 0 where
+pub record HasApplied {Value Op : Type 0} (m : Meaning Value Op) (l : List (Acceptance Op)) (x : SpotSet) (left : Cid → Bool) (kept : List Kept) (state : CausalState Value Op) : Type 0 where
   pub names : Names state.val_ts x
   pub value_is : state.value ≡ value m l x
-  pub table : IsTableOf l x kept state.calls
+  pub table : IsTableOf l x left kept state.calls
 
--- a state at which more was received: what is ready isn't all applied
-pub record IsPending {Value Op : Type 0} (m : Meaning Value Op) (l : List (Acceptance Op)) (r g done : SpotSet) (kept : List Kept) (state : CausalState Value Op) : Type 0 where
+-- a state at which more was received: what is ready isn't all applied, but each acceptance of a call that left is
+pub record IsPending {Value Op : Type 0} (m : Meaning Value Op) (l : List (Acceptance Op)) (r g done : SpotSet) (left : Cid → Bool) (kept : List Kept) (state : CausalState Value Op) : Type 0 where
   pub counted : IsCounted r state.rep_ts
   pub log : IsLogOf l g state.updates
   pub received : (s : Spot) → g s ≡ true → r s ≡ true
   pub covered : Each (λ a. r a.spot ≡ true → done a.spot ≡ false → g a.spot ≡ true) l
   pub within : (s : Spot) → done s ≡ true → ready l r s ≡ true
   pub flagged : Each (λ u. stamp_le (stamp_of u) state.val_ts ≡ done u.spot) state.updates
-  pub applied : HasApplied m l done kept state
+  pub over : Each (λ a. left a.cid ≡ true → done a.spot ≡ true) l
+  pub applied : HasApplied m l done left kept state

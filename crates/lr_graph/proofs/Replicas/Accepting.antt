@@ -1,5 +1,5 @@
 -- A replica that accepts a call.
-use Rattle.std.proofs.Common.{◌≡◌, ◌≢◌, ℕ, zero, suc, ◌+◌, ◌<◌, ◌≤◌, true, false, not, ◌&&◌, ◌||◌, ◌⊎◌, inl, inr, nat_lt, nat_le, List, ◌∷◌, refl, sym, ap, ◌∙◌, subst, arith, true≢false, le-leb, leb-true}
+use Rattle.std.proofs.Common.{Bool, ◌≡◌, ◌≢◌, ℕ, zero, suc, ◌+◌, ◌<◌, ◌≤◌, true, false, not, ◌&&◌, ◌||◌, ◌⊎◌, inl, inr, nat_lt, nat_le, List, ◌∷◌, refl, sym, ap, ◌∙◌, subst, arith, true≢false, le-leb, leb-true}
 use Rattle.lr_base.specs.Meaning.{Meaning}
 use Rattle.lr_base.specs.Orders.{IsAmong}
 use Rattle.lr_base.specs.Rules.{CausalState, accepted, insert_update, stamp_of, update_of_call}
@@ -40,7 +40,7 @@ ready-is l sound r a member here = same-test _ _ there (λ e. holds-ready l r a 
         let same : h.0 ≡ a = apart-same l sound.apart h.0 a h.1 member (sym h.2) in
         Rattle.lr_graph.proofs.Sets.ReadySets.holds-within l a.below r (subst (λ (b : Acceptance _). IsWithin l b.below r) same h.4)
 
-module _ {Value Op : Type 0} (m : Meaning Value Op) (config : Config) (l : List (Acceptance Op)) (sound : IsSound l) (r g : SpotSet) (kept : List Kept) (held : List (LabelledCall Op)) (state : CausalState Value Op) (ok : IsReplicaAt m config l r g kept held state) where
+module _ {Value Op : Type 0} (m : Meaning Value Op) (config : Config) (l : List (Acceptance Op)) (sound : IsSound l) (r g : SpotSet) (left : Cid → Bool) (kept : List Kept) (held : List (LabelledCall Op)) (state : CausalState Value Op) (ok : IsReplicaAt m config l r g left kept held state) where
   -- a logged update counts as applied just where its acceptance is ready
   pub flagged-all : Each (λ u. stamp_le (stamp_of u) state.val_ts ≡ ready l r u.spot) state.updates
   flagged-all = each-map _ _ state.updates (λ u h. flag u h.0 h.1 (ok.within h.0.spot h.2)) ok.log.each
@@ -51,7 +51,7 @@ module _ {Value Op : Type 0} (m : Meaning Value Op) (config : Config) (l : List 
           ∙ sym (ready-is l sound r a s.among here) ∙ ap (ready l r) (sym s.spot)
 
   -- a replica at which nothing came
-  pub unchanged-pending : IsPending m l r g (ready l r) kept state
+  pub unchanged-pending : IsPending m l r g (ready l r) left kept state
   unchanged-pending = record {
     counted = ok.counted;
     log = ok.log;
@@ -59,6 +59,7 @@ module _ {Value Op : Type 0} (m : Meaning Value Op) (config : Config) (l : List 
     covered = ok.covered;
     within = λ s e. e;
     flagged = flagged-all;
+    over = ok.over;
     applied = ok.applied;
   }
 
@@ -102,7 +103,7 @@ module _ {Op : Type 0} (l : List (Acceptance Op)) (sound : IsSound l) (spot : Sp
 
 -- ---- what is received with it
 
-module _ {Value Op : Type 0} (m : Meaning Value Op) (config : Config) (l : List (Acceptance Op)) (sound : IsSound l) (r g : SpotSet) (kept : List Kept) (held : List (LabelledCall Op)) (state : CausalState Value Op) (ok : IsReplicaAt m config l r g kept held state)
+module _ {Value Op : Type 0} (m : Meaning Value Op) (config : Config) (l : List (Acceptance Op)) (sound : IsSound l) (r g : SpotSet) (left : Cid → Bool) (kept : List Kept) (held : List (LabelledCall Op)) (state : CausalState Value Op) (ok : IsReplicaAt m config l r g left kept held state)
     (i : ℕ) (own : (b : Acceptance Op) → IsAmong b l → b.spot.place ≡ i → r b.spot ≡ true) where
   abbrev pub next : Spot
   next = spot_at i (part state.rep_ts i + 1)
@@ -159,7 +160,7 @@ module _ {Value Op : Type 0} (m : Meaning Value Op) (config : Config) (l : List 
               let number : s.number ≡ part state.rep_ts i + 1 = omega arith in
               or-right (r s) _ (ap (λ k. same_spot k next) (λ j. spot_at (e j) (number j)) ∙ same_spot-self next)
 
-  module _ (call : Call Op) (x : SpotSet) (names : Names call.prev x) (set : IsSetOf l x) (op : Op) (same_op : call.op ≡ op) (cid : Cid) (same_cid : call.cid ≡ cid) where
+  module _ (call : Call Op) (x : SpotSet) (names : Names call.prev x) (set : IsSetOf l x) (op : Op) (same_op : call.op ≡ op) (cid : Cid) (same_cid : call.cid ≡ cid) (stays : left cid ≡ false) where
     abbrev pub a : Acceptance Op
     a = made_at l sound next next-fresh (omega arith) cid op x set
 
@@ -225,7 +226,7 @@ module _ {Value Op : Type 0} (m : Meaning Value Op) (config : Config) (l : List 
         let most = counted-most r state.rep_ts ok.counted (spot_at i (part state.val_ts i)) (ap r got.2 ∙ got.3) in
         absurd (omega arith)
 
-    pub accept-pending : IsPending m (a ∷ l) (r ∪ only next) (g ∪ only next) (ready l r) kept (accepted i state call)
+    pub accept-pending : IsPending m (a ∷ l) (r ∪ only next) (g ∪ only next) (ready l r) left kept (accepted i state call)
     accept-pending = record {
       counted = counted-next;
       log = new-log;
@@ -236,8 +237,9 @@ module _ {Value Op : Type 0} (m : Meaning Value Op) (config : Config) (l : List 
       );
       within = λ s e. still_ready s (ready-holds l r s e);
       flagged = each-put u (λ y. stamp_le (stamp_of y) state.val_ts ≡ ready l r y.spot) state.updates
-          (never _ too_high ∙ sym (not-ready l a next-fresh r)) (flagged-all m config l sound r g kept held state ok);
-      applied = let h = applied-more l a next-fresh m (ready l r) kept state (not-ready l a next-fresh r) ok.applied in
+          (never _ too_high ∙ sym (not-ready l a next-fresh r)) (flagged-all m config l sound r g left kept held state ok);
+      over = ((λ gone. absurd (true≢false (sym gone ∙ stays))), ok.over);
+      applied = let h = applied-more l a next-fresh m (ready l r) left kept state (not-ready l a next-fresh r) ok.applied in
           record { names = h.names; value_is = h.value_is; table = h.table };
     }
       where

@@ -8,6 +8,7 @@ use Rattle.lr_base.specs.Stamps.{join, part, stamp_le}
 use Rattle.lr_base.specs.declared.messages.Gossip.{Gossip}
 use Rattle.lr_base.specs.declared.messages.LogAck.{LogAck}
 use Rattle.lr_base.specs.declared.messages.LogUpdate.{LogUpdate}
+use Rattle.lr_base.specs.declared.names.Cid.{Cid}
 use Rattle.lr_base.specs.declared.names.Config.{Config}
 use Rattle.lr_base.specs.declared.names.Spot.{Spot}
 use Rattle.lr_graph.specs.Closed.{Each, IsSound}
@@ -23,7 +24,7 @@ use Rattle.lr_graph.proofs.Sets.ReadySets.{holds-ready, ready-holds, ready-recei
 use Rattle.lr_graph.proofs.Related.Relation.{IsReplicaAt, SameGossip}
 use Rattle.lr_graph.proofs.Applying.Taking.{ascending-filter}
 use Rattle.lr_graph.proofs.Logs.Tallying.{how_many-same}
-use Rattle.lr_graph.proofs.Lists.Tests.{and-intro, and-left, and-right, decided, le-or-lt, never, not-false, or-cases, or-left, or-right, same-test}
+use Rattle.lr_graph.proofs.Lists.Tests.{and-intro, and-left, and-right, decided, le-or-lt, never, not-false, or-cases, or-false_left, or-false_right, or-left, or-right, same-test}
 use Rattle.lr_graph.proofs.Related.Ties.{HasUpdateAt, IsAscending, IsLogOf, IsPending, IsUpdateOf, StandsFor}
 
 -- ---- a log with several updates more
@@ -109,8 +110,8 @@ new-spot r rep counted s some = same-test _ _ there back
         by_number (inl le) = absurd (true≢false (sym (counted-has r rep counted s (omega arith) le) ∙ not-false (r s) e))
         by_number (inr lt) = le-leb (suc (part rep s.place)) s.number lt
 
-module _ {Value Op : Type 0} (m : Meaning Value Op) (config : Config) (l : List (Acceptance Op)) (acks : List LogAck) (sound : IsSound l) (received : ℕ → SpotSet) (i : ℕ) (here : i < config.replicas) (logs : SpotSet) (kept : List Kept) (held : List (LabelledCall Op)) (state : CausalState Value Op)
-    (ok : IsReplicaAt m config l (received i) logs kept held state) (names : SpotSet) (gossip : Gossip Op) (same : SameGossip config.replicas l acks received names gossip) where
+module _ {Value Op : Type 0} (m : Meaning Value Op) (config : Config) (l : List (Acceptance Op)) (acks : List LogAck) (sound : IsSound l) (received : ℕ → SpotSet) (i : ℕ) (here : i < config.replicas) (logs : SpotSet) (left : Cid → Bool) (kept : List Kept) (held : List (LabelledCall Op)) (state : CausalState Value Op)
+    (ok : IsReplicaAt m config l (received i) logs left kept held state) (names : SpotSet) (gossip : Gossip Op) (same : SameGossip config.replicas l acks (received i) names gossip) where
   abbrev r : SpotSet
   r = received i
 
@@ -147,7 +148,7 @@ module _ {Value Op : Type 0} (m : Meaning Value Op) (config : Config) (l : List 
         where
           by_log : (same.logs s ≡ true) ⊎ (same.logs s ≡ false) → fresh s ≡ true
           by_log (inl h) = and-intro (same.logs s) _ h (and-right (names s) _ e)
-          by_log (inr h) = absurd (true≢false (sym (same.elsewhere s (and-left (names s) _ e) h i here) ∙ not-false (r s) (and-right (names s) _ e)))
+          by_log (inr h) = absurd (true≢false (sym (same.elsewhere s (and-left (names s) _ e) h) ∙ not-false (r s) (and-right (names s) _ e)))
 
   -- so many acceptances are new as updates are
   pub count-new : how_many (λ a. names a.spot && not (r a.spot)) l ≡ length (new_updates state.rep_ts gossip.updates)
@@ -167,7 +168,7 @@ module _ {Value Op : Type 0} (m : Meaning Value Op) (config : Config) (l : List 
       let got : r u.spot ≡ true = counted-has r state.rep_ts ok.counted u.spot (omega arith) (omega arith) in
       true≢false (sym got ∙ ap r s.spot ∙ out)
 
-  pub gossip-pending : (from : ℕ) → IsPending m l (r ∪ names) (logs ∪ fresh) (ready l r) kept (gossip_taken from state gossip)
+  pub gossip-pending : (from : ℕ) → IsPending m l (r ∪ names) (logs ∪ fresh) (ready l r) left kept (gossip_taken i from state gossip)
   gossip-pending from = record {
     counted = counted-join r names state.rep_ts gossip.rep_ts ok.counted same.counted;
     log = log-both l logs fresh state.updates (new_updates state.rep_ts gossip.updates) ok.log new-log (λ s new old. true≢false (sym (ok.within s old) ∙ not-false (r s) (and-right (same.logs s) _ new)));
@@ -176,7 +177,8 @@ module _ {Value Op : Type 0} (m : Meaning Value Op) (config : Config) (l : List 
     within = ready-wider;
     flagged = each-puts (λ u. stamp_le (stamp_of u) state.val_ts ≡ ready l r u.spot) (new_updates state.rep_ts gossip.updates) state.updates
         (each-map _ _ (new_updates state.rep_ts gossip.updates) (λ u h. high u h.0 h.1 (not-false (r h.0.spot) (and-right (same.logs h.0.spot) _ h.2))) new-log.each)
-        (flagged-all m config l sound r logs kept held state ok);
+        (flagged-all m config l sound r logs left kept held state ok);
+    over = ok.over;
     applied = record { names = ok.applied.names; value_is = ok.applied.value_is; table = ok.applied.table };
   }
     where
@@ -193,11 +195,12 @@ module _ {Value Op : Type 0} (m : Meaning Value Op) (config : Config) (l : List 
       high : (u : LogUpdate Op) (a : Acceptance Op) → StandsFor l u a → r a.spot ≡ false → stamp_le (stamp_of u) state.val_ts ≡ ready l r u.spot
       high u a s out = never _ (too-high u a s out) ∙ sym (never _ (λ e. true≢false (sym (ready-received l r u.spot e) ∙ ap r s.spot ∙ out)))
 
-  -- with several replicas all that is received is logged
-  pub gossip-logged : ((s : Spot) → logs s ≡ r s) → (s : Spot) → (logs s || fresh s) ≡ (r s || names s)
-  gossip-logged all s = ap (λ t. t || fresh s) (all s) ∙ ap (λ t. r s || t) (sym (fresh-is s)) ∙ absorbed (r s) (names s)
+  -- what is received now and isn't logged was received before and not logged
+  pub gossip-unlogged : (s : Spot) → (r s || names s) ≡ true → (logs s || fresh s) ≡ false → (r s ≡ true) × (logs s ≡ false)
+  gossip-unlogged s e out = by_test (decided (r s))
     where
-      absorbed : (a b : Bool) → (a || (b && not a)) ≡ (a || b)
-      absorbed true b = refl
-      absorbed false true = refl
-      absorbed false false = refl
+      by_test : (r s ≡ true) ⊎ (r s ≡ false) → (r s ≡ true) × (logs s ≡ false)
+      by_test (inl h) = (h, or-false_left (logs s) _ out)
+      by_test (inr h) =
+          let named : names s ≡ true = sym (ap (λ t. t || names s) h) ∙ e in
+          absurd (true≢false (sym (sym (fresh-is s) ∙ and-intro (names s) _ named (ap not h)) ∙ or-false_right (logs s) _ out))

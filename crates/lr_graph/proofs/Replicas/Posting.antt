@@ -16,6 +16,8 @@ use Rattle.lr_base.specs.declared.names.Cid.{Cid}
 use Rattle.lr_base.specs.declared.names.Config.{Config}
 use Rattle.lr_graph.specs.Graph.{Facts, LabelledCall, SentMessage}
 use Rattle.lr_graph.specs.Runs.{act_lines, act_posts, message_at, sent_of_message}
+use Rattle.lr_graph.specs.Spread.{IsGossipSpread}
+use Rattle.lr_graph.proofs.Pruning.Spreading.{spread-sent}
 use Rattle.lr_graph.proofs.Lists.Places.{slice-before, slice-behind}
 use Rattle.lr_graph.proofs.Related.Relation.{IsShared, SameMessage, SameOption, calls_in}
 use Rattle.lr_graph.proofs.Lists.Tests.{equal-or-not, le-or-lt, never}
@@ -45,15 +47,16 @@ module _ {Value Op : Type 0} (m : Meaning Value Op) (config : Config) (issued : 
   Same = SameOption (SameMessage m config w.accepted w.acks w.received issued (calls_in w))
 
   -- a message is sent on both sides
-  pub message-sent : (x : SentMessage Op) (p : Posted Op) → x.number ≡ length posted + 1 → SameMessage m config w.accepted w.acks w.received issued (calls_in w) x p
+  pub message-sent : (x : SentMessage Op) (p : Posted Op) → x.number ≡ length posted + 1 → SameMessage m config w.accepted w.acks w.received issued (calls_in w) x p → IsGossipSpread config w x.from x.what
       → IsShared m config issued (record w { messages = x ∷ w.messages }) fronts (posted ++ p ∷ [])
-  message-sent x p number same = record {
+  message-sent x p number same told = record {
     sound = shared.sound;
     each = shared.each;
     apart = shared.apart;
     numbered = shared.numbered;
     own = shared.own;
     exist = shared.exist;
+    spread = spread-sent config w x told shared.spread;
     fronts_are = shared.fronts_are;
     opened = shared.opened;
     count = let c = shared.count in omega (arith, length-append posted (p ∷ []));

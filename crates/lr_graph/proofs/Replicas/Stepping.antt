@@ -1,5 +1,5 @@
 -- A whole step of a replica: its own part, and then the end of the step.
-use Rattle.std.proofs.Common.{◌≡◌, ◌≢◌, ℕ, ◌+◌, ◌<◌, true, false, cond, ◌==◌, ◌⊎◌, inl, inr, not, filter, List, [], ◌∷◌, ◌++◌, length, set, Option, Some, refl, sym, ap, ◌∙◌, subst, arith, eqb-true, eq-eqb}
+use Rattle.std.proofs.Common.{◌≡◌, ◌≢◌, ℕ, ◌+◌, ◌<◌, true, false, ◌⊎◌, inl, inr, not, filter, List, [], ◌∷◌, ◌++◌, length, set, Option, Some, is_some, refl, sym, ap, ◌∙◌, subst, arith}
 use Rattle.std.proofs.lemmas.List.{append_assoc, length-append}
 use Rattle.std.proofs.lemmas.Option.{slice_get_within}
 use Rattle.std.specs.List.{slice_get}
@@ -8,7 +8,9 @@ use Rattle.lr_base.specs.Meaning.{Encoding, Lawful, Meaning}
 use Rattle.lr_base.specs.Replicas.{ReplicaState}
 use Rattle.lr_base.specs.Rules.{CausalState, applied}
 use Rattle.lr_base.specs.Steps.{Ending, ended, held_acts}
+use Rattle.lr_base.specs.Stamps.{stamp_le}
 use Rattle.lr_base.specs.declared.acts.Posted.{Posted}
+use Rattle.lr_base.specs.declared.messages.Call.{Call}
 use Rattle.lr_base.specs.declared.events.Outcome.{Outcome}
 use Rattle.lr_base.specs.declared.lr_service.Kind.{Kind}
 use Rattle.lr_base.specs.declared.names.Actor.TheVariants.{Replica}
@@ -16,27 +18,23 @@ use Rattle.lr_base.specs.declared.names.Cid.{Cid}
 use Rattle.lr_base.specs.declared.names.Config.{Config}
 use Rattle.lr_graph.specs.After.{end_read, line_read, lines_read, step_ended, Handling}
 use Rattle.lr_graph.specs.Closed.{Each}
-use Rattle.lr_graph.specs.Graph.{Acceptance, Facts, Kept, LabelledCall, is_within, keep_new, ready}
-use Rattle.lr_graph.specs.Legal.{answers_at, logged, next_number}
+use Rattle.lr_graph.specs.Graph.{Acceptance, Facts, Kept, LabelledCall, is_within, item_spots, keep_new, kept_spot, ready}
+use Rattle.lr_graph.specs.Legal.{answers_at, next_number}
 use Rattle.lr_graph.specs.Runs.{RunState, act_lines, act_posts}
-use Rattle.lr_graph.specs.Sets.{put_at}
-use Rattle.lr_graph.proofs.Logs.Items.{accepted-item}
-use Rattle.lr_graph.proofs.Replicas.Ending.{HasSent, IsMid, answers-sent, ended-at, ended-noted, mid-test, same-answers}
+use Rattle.lr_graph.specs.Pruned.{is_left, is_ready, logged}
+use Rattle.lr_graph.proofs.Logs.Items.{accepted-item, apart-noted, noted-item}
+use Rattle.lr_graph.proofs.Pruning.Known.{whole-at}
+use Rattle.lr_graph.proofs.Pruning.Spreading.{spread-beside}
+use Rattle.lr_graph.proofs.Sets.KeptSpots.{keep_new-is, kept-ready}
+use Rattle.lr_graph.proofs.Replicas.Ending.{HasSent, IsMid, IsWhole, answers-sent, ended-at, ended-noted, mid-test, same-answers}
 use Rattle.lr_graph.proofs.Lists.Members.{each-at, each-from, each-map}
 use Rattle.lr_graph.proofs.Lists.Places.{slice-set_other, slice-set_same}
 use Rattle.lr_graph.proofs.Replicas.Posting.{act_lines-append, act_posts-append}
-use Rattle.lr_graph.proofs.Related.Relation.{IsAcceptance, IsReplicaAt, IsSame, IsShared, IsTied, calls_in}
+use Rattle.lr_graph.proofs.Related.Relation.{IsAcceptance, IsReplicaAt, IsSame, IsShared, IsTied, SameCall, calls_in}
 use Rattle.lr_graph.proofs.Applying.Settling.{settled}
-use Rattle.lr_graph.proofs.Lists.Tests.{and-left, and-right, equal-or-not, never, not-false}
+pub use Rattle.lr_graph.proofs.Sets.PutAt.{put-other, put-same}
+use Rattle.lr_graph.proofs.Lists.Tests.{and-left, and-right, equal-or-not, not-false}
 use Rattle.lr_graph.proofs.Related.Ties.{HasApplied, HasOneCall, IsFree}
-
--- ---- tables by number
-
-pub put-same : {X : Type 0} (i : ℕ) (x : X) (table : ℕ → X) → put_at i x table i ≡ x
-put-same i x table = ap (λ t. cond t x (table i)) (eq-eqb i i refl)
-
-pub put-other : {X : Type 0} (i j : ℕ) (x : X) (table : ℕ → X) → j ≢ i → put_at i x table j ≡ table j
-put-other i j x table apart = ap (λ t. cond t x (table j)) (never (j == i) (λ e. apart (eqb-true j i e)))
 
 -- lines are read one list after the other
 pub lines_read-append : {Value Op : Type 0} (m : Meaning Value Op) (config : Config) (x : Handling Op) (w : Facts Op) (xs ys : List Outcome) → lines_read m config x w (xs ++ ys) ≡ lines_read m config x (lines_read m config x w xs) ys
@@ -96,34 +94,39 @@ module _ {Value Op : Type 0} (m : Meaning Value Op) {e : Encoding Value} (kind_o
   now = applied m end.state
 
   abbrev last : Ending Value Op
-  last = ended m config.replicas end.state end.acts
+  last = ended m config.delta end.state end.acts
 
   abbrev posted1 : List (Posted Op)
   posted1 = v.posted ++ act_posts (Replica i) end.acts
 
-  all_applied : HasApplied m w1.accepted (ready w1.accepted (w1.received i)) (keep_new w1.accepted (ready w1.accepted (w1.received i)) w1.accepted (w1.kept i)) now
-  all_applied = settled m kind_of lawful w1.accepted (w1.received i) part.mid.logs part.mid.done (w1.kept i) end.state part.shared.sound
+  all_applied : HasApplied m w1.accepted (ready w1.accepted (w1.received i)) part.mid.left (keep_new w1.accepted (ready w1.accepted (w1.received i)) w1.accepted (w1.kept i)) now
+  all_applied = settled m kind_of lawful w1.accepted (w1.received i) part.mid.logs part.mid.done part.mid.left (w1.kept i) end.state part.shared.sound
       (one-call m config issued (calls_in w1) w1.accepted part.shared.each) (all-free m config issued (calls_in w1) w1.accepted part.shared.each) part.mid.pending
 
   next_is : next_number w1 ≡ length posted1 + 1
   next_is = let c = part.shared.count in omega arith
 
+  numbered : Each (λ a. 0 < a.spot.number) w1.acks
+  numbered = each-from _ w1.acks (λ a member. each-at _ a.spot (item_spots w1) part.shared.numbered (noted-item w1 a member))
+
+  -- what is known everywhere is ready at the end, and all of a call that left
+  whole : IsWhole config w1 i
+  whole = whole-at config w1 part.shared.sound (each-map _ _ w1.accepted (λ a h. h.place) part.shared.each) (λ a member. part.shared.own a.spot (accepted-item w1 a member)) part.shared.spread i here
+
+  kept_all : (cid : Cid) → is_ready w1 i cid ≡ true → is_some (kept_spot (keep_new w1.accepted (ready w1.accepted (w1.received i)) w1.accepted (w1.kept i)) cid) ≡ true
+  kept_all cid has = ap is_some (keep_new-is w1.accepted (ready w1.accepted (w1.received i)) (w1.kept i) cid) ∙ kept-ready w1.accepted (ready w1.accepted (w1.received i)) (w1.kept i) cid has
+
+  test : (c : LabelledCall Op) (d : Call Op) → SameCall w1.accepted c d → stamp_le d.prev now.val_ts ≡ is_within w1.accepted c.label (w1.received i)
+  test = mid-test m config w1 i part.shared.sound numbered (apart-noted w1 part.shared.apart) end.state part.mid whole _ kept_all all_applied
+
   answer_lines : answers_at m w1 (Some i) ≡ act_lines (length posted1) (Replica i) (held_acts m now now.held)
-  answer_lines = same-answers m config w1 i part.shared.sound now (mid-test m config w1 i part.shared.sound end.state part.mid _ all_applied) all_applied.names all_applied.value_is
+  answer_lines = same-answers m config w1 i part.shared.sound now test all_applied.names all_applied.value_is
       (length posted1) (next_number w1) next_is (w1.held i) now.held part.mid.held_are
 
-  sent : HasSent m config w1 i part.shared.sound now (mid-test m config w1 i part.shared.sound end.state part.mid _ all_applied) all_applied.names all_applied.value_is issued v.fronts x
+  sent : HasSent m config w1 i part.shared.sound now test all_applied.names all_applied.value_is issued v.fronts x
       (lines_read m config x w1 (answers_at m w1 (Some i))) (posted1 ++ act_posts (Replica i) (held_acts m now now.held))
-  sent = answers-sent m config w1 i part.shared.sound now (mid-test m config w1 i part.shared.sound end.state part.mid _ all_applied) all_applied.names all_applied.value_is issued v.fronts x
+  sent = answers-sent m config w1 i part.shared.sound now test all_applied.names all_applied.value_is issued v.fronts x
       (next_number w1) (w1.held i) now.held part.mid.held_are w1.messages posted1 next_is part.shared
-
-  -- with one replica all was received there
-  alone : (config.replicas == 1) ≡ true → Each (λ a. w1.received i a.spot ≡ true) w1.accepted
-  alone e = each-from _ w1.accepted (λ a member.
-      let one = eqb-true config.replicas 1 e in
-      let place = (each-at _ a w1.accepted part.shared.each member).place in
-      let same : a.spot.place ≡ i = omega arith in
-      ap (λ k. w1.received k a.spot) (sym same) ∙ part.shared.own a.spot (accepted-item w1 a member))
 
   -- the facts at the end
   abbrev w2 : Facts Op
@@ -135,7 +138,7 @@ module _ {Value Op : Type 0} (m : Meaning Value Op) {e : Encoding Value} (kind_o
       append_assoc v.posted (act_posts (Replica i) end.acts) (act_posts (Replica i) (held_acts m now now.held))
       ∙ ap (λ (ps : List (Posted Op)). v.posted ++ ps) (sym (act_posts-append (Replica i) end.acts (held_acts m now now.held))) in
       let s = subst (λ (ps : List (Posted Op)). IsShared m config issued (record w1 { messages = sent.messages }) v.fronts ps) posts sent.shared in
-      record { sound = s.sound; each = s.each; apart = s.apart; numbered = s.numbered; own = s.own; exist = s.exist; fronts_are = s.fronts_are; opened = s.opened; count = s.count; messages = s.messages }
+      record { sound = s.sound; each = s.each; apart = s.apart; numbered = s.numbered; own = s.own; exist = s.exist; spread = spread-beside config (record w1 { messages = sent.messages }) w1.front w2.kept w2.held w1.clock s.spread; fronts_are = s.fronts_are; opened = s.opened; count = s.count; messages = s.messages }
 
   abbrev kept2 : List Kept
   kept2 = keep_new w1.accepted (ready w1.accepted (w1.received i)) w1.accepted (w1.kept i)
@@ -159,10 +162,10 @@ module _ {Value Op : Type 0} (m : Meaning Value Op) {e : Encoding Value} (kind_o
           number = number;
           state_is = refl;
         },
-        subst (λ kept. IsReplicaAt m config w1.accepted (w1.received i) (logged config w1 i) kept (w2.held i) last.state) (sym (put-same i kept2 w1.kept))
-            (subst (λ held. IsReplicaAt m config w1.accepted (w1.received i) (logged config w1 i) kept2 held last.state) (sym (put-same i held2 w1.held))
-            (ended-at m config w1 i part.shared.sound end.state part.mid kept2 all_applied alone)),
-        ended-noted m config w1 i part.shared.sound end.state part.mid kept2 all_applied,
+        subst (λ kept. IsReplicaAt m config w1.accepted (w1.received i) (logged config w1 i) (is_left config w1 i) kept (w2.held i) last.state) (sym (put-same i kept2 w1.kept))
+            (subst (λ held. IsReplicaAt m config w1.accepted (w1.received i) (logged config w1 i) (is_left config w1 i) kept2 held last.state) (sym (put-same i held2 w1.held))
+            (ended-at m config w1 i part.shared.sound numbered (apart-noted w1 part.shared.apart) end.state part.mid whole kept2 kept_all all_applied)),
+        ended-noted m config w1 i part.shared.sound numbered (apart-noted w1 part.shared.apart) end.state part.mid whole kept2 kept_all all_applied,
       )
       by_place (inr apart) =
           let old = part.others j apart within in (
@@ -174,8 +177,8 @@ module _ {Value Op : Type 0} (m : Meaning Value Op) {e : Encoding Value} (kind_o
               number = old.1.number;
               state_is = old.1.state_is;
             },
-            subst (λ kept. IsReplicaAt m config w1.accepted (w1.received j) (logged config w1 j) kept (w2.held j) old.0) (sym (put-other i j kept2 w1.kept apart))
-                (subst (λ held. IsReplicaAt m config w1.accepted (w1.received j) (logged config w1 j) (w1.kept j) held old.0) (sym (put-other i j held2 w1.held apart)) old.2),
+            subst (λ kept. IsReplicaAt m config w1.accepted (w1.received j) (logged config w1 j) (is_left config w1 j) kept (w2.held j) old.0) (sym (put-other i j kept2 w1.kept apart))
+                (subst (λ held. IsReplicaAt m config w1.accepted (w1.received j) (logged config w1 j) (is_left config w1 j) (w1.kept j) held old.0) (sym (put-other i j held2 w1.held apart)) old.2),
             old.3,
           )
 

@@ -209,3 +209,21 @@ module _ {Op : Type 0} (l : List (Acceptance Op)) (x : SpotSet) (kept : List Kep
       by_any false e = sym (least_spot-lacks l x cid (never _ (λ has.
           let a = has_call-holds l x cid has in
           true≢false (sym (among-list_any (λ b. same_cid cid b.cid) a.0 l a.1 (ap (same_cid cid) a.3 ∙ same_cid-self cid)) ∙ e))))
+
+-- a set has a least spot of a call that it has
+pub least_spot-some : {Op : Type 0} (l : List (Acceptance Op)) (x : SpotSet) (cid : Cid) → has_call l x cid ≡ true → is_some (least_spot l x cid) ≡ true
+least_spot-some [] x cid e = absurd (true≢false (sym e))
+least_spot-some (a ∷ l) x cid e = at_newest (x a.spot && same_cid cid a.cid) e (least_spot l x cid) (least_spot-some l x cid)
+  where
+    at_newest : (t : Bool) → (t || has_call l x cid) ≡ true → (o : Option Spot) → (has_call l x cid ≡ true → is_some o ≡ true) → is_some (cond t (lesser a.spot o) o) ≡ true
+    at_newest true e None rest = refl
+    at_newest true e (Some b) rest = refl
+    at_newest false e o rest = rest e
+
+-- of each call of a set a spot is kept
+pub kept-ready : {Op : Type 0} (l : List (Acceptance Op)) (x : SpotSet) (kept : List Kept) (cid : Cid) → has_call l x cid ≡ true → is_some (spot_to_keep l x kept cid) ≡ true
+kept-ready l x kept cid has = by_kept (kept_spot kept cid)
+  where
+    by_kept : (o : Option Spot) → is_some (option_or o (least_spot l x cid)) ≡ true
+    by_kept (Some s) = refl
+    by_kept None = least_spot-some l x cid has

@@ -1,5 +1,5 @@
 -- A stamp is the join of the stamps of the acceptances that its set names.
-use Rattle.std.proofs.Common.{◌≡◌, ℕ, zero, suc, ◌<◌, ◌≤◌, max, Bool, true, false, cond, ◌&&◌, ◌==◌, ◌⊎◌, inl, inr, find, List, [], ◌∷◌, Option, Some, None, refl, sym, ap, ◌∙◌, subst, arith, true≢false, eqb-true, eq-eqb}
+use Rattle.std.proofs.Common.{◌≡◌, ℕ, zero, suc, ◌<◌, ◌≤◌, max, Bool, true, false, cond, ◌&&◌, ◌==◌, ◌⊎◌, inl, inr, find, List, [], ◌∷◌, Option, Some, None, is_some, refl, sym, ap, ◌∙◌, subst, arith, true≢false, eqb-true, eq-eqb}
 use Rattle.std.specs.List.{slice_get}
 use Rattle.lr_base.specs.Meaning.{Meaning}
 use Rattle.lr_base.specs.Orders.{IsAmong}
@@ -8,25 +8,32 @@ use Rattle.lr_base.specs.Rules.{stamp_of}
 use Rattle.lr_base.specs.Stamps.{part, stamp_le}
 use Rattle.lr_base.specs.declared.acts.Posted.{Posted}
 use Rattle.lr_base.specs.declared.messages.Call.{Call}
+use Rattle.lr_base.specs.declared.messages.LogAck.{LogAck}
 use Rattle.lr_base.specs.declared.messages.LogUpdate.{LogUpdate}
 use Rattle.lr_base.specs.declared.messages.Message.{Message}
+use Rattle.lr_base.specs.declared.names.Actor.{Actor}
+use Rattle.lr_base.specs.declared.names.Actor.TheVariants.{Client, Replica}
 use Rattle.lr_base.specs.declared.names.Config.{Config}
 use Rattle.lr_base.specs.declared.names.Spot.{Spot}
 use Rattle.lr_graph.specs.Central.{CarriesStamp, HasStamps, IsCentral, IsHeldIn, IsUpdateIn, StandsForSet, greatest, joined, IsCallIn, IsOpenIn, IsMessageIn}
 use Rattle.lr_graph.specs.Closed.{Each, HasApartSpots, HasOlderCauses, IsSetOf, IsSound, causes}
+use Rattle.lr_graph.specs.After.{received_at}
 use Rattle.lr_graph.specs.Graph.{Acceptance, Carried, Facts, LabelledCall, SentMessage, is_within, ready}
-use Rattle.lr_graph.specs.Legal.{logged}
 use Rattle.lr_graph.specs.Names.{Names, spot_at}
 use Rattle.lr_graph.specs.Runs.{RunState}
-use Rattle.lr_graph.specs.Sets.{SpotSet, same_spot}
+use Rattle.lr_graph.specs.Sets.{SpotSet, nothing, same_spot}
 use Rattle.lr_graph.proofs.Stamps.Central.{below-set, stamp_le-within}
 use Rattle.lr_graph.proofs.Replicas.Ending.{ready-set}
 use Rattle.lr_graph.proofs.Lists.Members.{each-at, each-from, each-map}
 use Rattle.lr_graph.proofs.Sets.ReadySets.{causes-accepted, self-below, update-stamp}
-use Rattle.lr_graph.proofs.Related.Relation.{HasNoted, IsReplicaAt, IsSame, SameCarried, SameHeld, SameList, SameMessage, SameOption, calls_in, same_ack, same_answer, same_done, same_gossip, same_query, same_update, SameCall}
+use Rattle.lr_graph.proofs.Related.Relation.{at_actor, HasNoted, IsReplicaAt, IsSame, SameCarried, SameHeld, SameList, SameMessage, SameOption, calls_in, same_ack, same_answer, same_done, same_gossip, same_query, same_update, SameCall}
 use Rattle.lr_graph.proofs.Related.Ties.{IsUpdateOf}
-use Rattle.lr_graph.proofs.Lists.Tests.{and-intro, and-left, and-right, decided, never, not-false, same_spot-is, same_spot-self}
+use Rattle.lr_graph.proofs.Lists.Tests.{and-intro, and-left, and-right, decided, never, never-false, not-false, same_spot-is, same_spot-self}
 use Rattle.lr_graph.specs.Slow.{value_in}
+use Rattle.lr_graph.specs.Pruned.{is_acked, is_left, logged, told_by}
+use Rattle.lr_graph.proofs.Logs.Acks.{acks-among, among-acks}
+use Rattle.lr_graph.proofs.Pruning.Spent.{known-left}
+use Rattle.lr_graph.proofs.Pruning.Tables.{kept-known}
 
 module _ {Op : Type 0} where
   -- the greatest number at a place is above each of the set's there
@@ -176,16 +183,19 @@ module _ {Value Op : Type 0} (m : Meaning Value Op) (config : Config) (w : Facts
   open-in None (Some d) h = h
   open-in (Some c) None h = h
 
-  carries : (x : Carried Op) (p : Message Op) → SameCarried m config w.accepted w.acks w.received same.issued (calls_in w) x p → CarriesStamp config w v x p
-  carries x p (same_update c d t time call times by update) = (call-in c d call, sym times)
-  carries x p (same_query c d call by) = call-in c d call
-  carries x p (same_ack cid other t time cids times client) = (sym cids, sym times)
-  carries x p (same_done cid other names at stamp cids named set done) = (sym cids, done, stands stamp names named set)
-  carries x p (same_answer cid other names text stamp cids named set) = (sym cids, stands stamp names named set)
-  carries x p (same_gossip names g h) = record {
+  carries : (there : SpotSet) (x : Carried Op) (p : Message Op) → SameCarried m config w.accepted w.acks there same.issued (calls_in w) x p → CarriesStamp config w v there x p
+  carries there x p (same_update c d t time call times by update) = (call-in c d call, sym times)
+  carries there x p (same_query c d call by) = call-in c d call
+  carries there x p (same_ack cid other t time cids times client) = (sym cids, sym times)
+  carries there x p (same_done cid other names at stamp cids named set done) = (sym cids, done, stands stamp names named set)
+  carries there x p (same_answer cid other names text stamp cids named set) = (sym cids, stands stamp names named set)
+  carries there x p (same_gossip names g h) = record {
     counted = h.counted;
-    updates = each-map (IsUpdateOf w.accepted h.logs) (IsUpdateIn config w v) g.updates (λ u of. update-in u h.logs of) h.log.each;
-    acks = h.acks_are;
+    updates = each-map (IsUpdateOf w.accepted h.logs) (λ u. IsUpdateIn config w v u × (names u.spot ≡ true)) g.updates (λ u of. (update-in u h.logs of, ap names of.1.spot ∙ h.within of.0.spot of.2)) h.log.each;
+    lacking = each-from _ w.accepted (λ a member named out. each-at _ a w.accepted h.log.all member (never-false (h.logs a.spot) (λ e. true≢false (sym (h.elsewhere a.spot named e) ∙ out))));
+    acks = each-from _ g.acks (λ a member. (let k = acks-among h.ack_logs w.acks a (subst (λ (xs : List LogAck). IsAmong a xs) h.acks_are member) in (k.0, each-at _ a w.acks h.acks_within k.0 k.1)));
+    acks_lacking = each-from _ w.acks (λ a member named out. subst (λ (xs : List LogAck). IsAmong a xs) (sym h.acks_are)
+        (among-acks h.ack_logs w.acks a member (never-false (h.ack_logs a) (λ e. true≢false (sym (each-at _ a w.acks h.acks_elsewhere member named e) ∙ out)))));
   }
 
   -- each held query has its counterpart
@@ -198,7 +208,11 @@ module _ {Value Op : Type 0} (m : Meaning Value Op) (config : Config) (w : Facts
     held-in i cs ds (λ x member. into x (inr member)) all.1,
   )
 
-  has-stamps : (i : ℕ) (replica : ReplicaState Value Op) → IsReplicaAt m config w.accepted (w.received i) (logged config w i) (w.kept i) (w.held i) replica.causal → HasNoted w.acks (w.received i) (w.clock i) replica.causal → HasStamps config w v i replica
+  carries_to : (to : Actor) (x : Carried Op) (p : Message Op) → SameCarried m config w.accepted w.acks (at_actor w.received to) same.issued (calls_in w) x p → CarriesStamp config w v (received_at w to) x p
+  carries_to (Replica i) x p h = carries (w.received i) x p h
+  carries_to (Client client) x p h = carries nothing x p h
+
+  has-stamps : (i : ℕ) (replica : ReplicaState Value Op) → IsReplicaAt m config w.accepted (w.received i) (logged config w i) (is_left config w i) (w.kept i) (w.held i) replica.causal → HasNoted config.replicas w.acks (is_acked config w i) (w.clock i) (told_by w i) replica.causal → HasStamps config w v i replica
   has-stamps i replica ok noted = record {
     prefixes = ok.counted;
     clock = noted.clock_is;
@@ -207,8 +221,8 @@ module _ {Value Op : Type 0} (m : Meaning Value Op) (config : Config) (w : Facts
     held = held-in i (w.held i) replica.causal.held (λ c member. member) ok.held_are;
     updates = each-map (IsUpdateOf w.accepted (logged config w i)) (IsUpdateIn config w v) replica.causal.updates (λ u h. update-in u (logged config w i) h) ok.log.each;
     by_call = ok.still.keys;
-    executed = ok.applied.table.known;
-    kept = ok.applied.table.spots;
+    executed = λ cid. ok.applied.table.known cid ∙ known-left config w i cid;
+    kept = λ cid. kept-known config w i (w.kept i) replica.causal.calls ok.applied.table cid;
     known = λ cid known is. (let a = ok.applied.table.stamps cid known is in record {
       of = a.0;
       among = a.1;
@@ -233,7 +247,7 @@ module _ {Value Op : Type 0} (m : Meaning Value Op) (config : Config) (w : Facts
     replicas = λ i inside. (let tied = same.replicas i inside in (
       tied.1.replica,
       tied.1.there,
-      has-stamps i tied.1.replica (subst (λ state. IsReplicaAt m config w.accepted (w.received i) (logged config w i) (w.kept i) (w.held i) state) (sym tied.1.state_is) tied.2) (subst (λ state. HasNoted w.acks (w.received i) (w.clock i) state) (sym tied.1.state_is) tied.3),
+      has-stamps i tied.1.replica (subst (λ state. IsReplicaAt m config w.accepted (w.received i) (logged config w i) (is_left config w i) (w.kept i) (w.held i) state) (sym tied.1.state_is) tied.2) (subst (λ state. HasNoted config.replicas w.acks (is_acked config w i) (w.clock i) (told_by w i) state) (sym tied.1.state_is) tied.3),
     ));
     fronts = λ client inside. (let f = same.shared.fronts_are client inside in (
       f.0,
@@ -258,4 +272,4 @@ module _ {Value Op : Type 0} (m : Meaning Value Op) (config : Config) (w : Facts
           go : (o : Option (SentMessage Op)) → find (λ y. y.number == n) w.messages ≡ o → SameOption (SameMessage m config w.accepted w.acks w.received same.issued (calls_in w)) o (Some p)
               → (x : SentMessage Op) × (find (λ y. y.number == n) w.messages ≡ Some x) × IsMessageIn config w v x p
           go None e h = absurd h
-          go (Some x) e h = (x, e, record { from = sym h.from; to = sym h.to; what = carries x.what p.message h.what })
+          go (Some x) e h = (x, e, record { from = sym h.from; to = sym h.to; what = carries_to x.to x.what p.message h.what })

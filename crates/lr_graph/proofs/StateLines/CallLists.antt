@@ -1,10 +1,10 @@
 -- The executed calls that a state line lists, in the graph and by the rules.
-use Rattle.std.proofs.Common.{◌≡◌, Bool, true, false, cond, not, ◌⊎◌, inl, inr, List, [], ◌∷◌, map, Some, None, is_some, refl, sym, ap, ◌∙◌, true≢false, arith}
+use Rattle.std.proofs.Common.{◌≡◌, Bool, true, false, cond, not, ◌⊎◌, inl, inr, List, [], ◌∷◌, filter, map, Some, None, is_some, refl, sym, ap, ◌∙◌, true≢false, arith}
 use Rattle.std.proofs.lemmas.Bool.Decides.{nat_tests}
 use Rattle.lr_base.specs.Ascending.{cid_before, same_cid}
 use Rattle.lr_base.specs.Calls.{AreByCall}
 use Rattle.lr_base.specs.Orders.{IsAmong}
-use Rattle.lr_base.specs.InsertionLaws.{among-inserted, ascends-inserted, each-inserted}
+use Rattle.lr_base.specs.InsertionLaws.{among-inserted, ascends-filter, ascends-inserted, each-inserted}
 use Rattle.lr_base.specs.NameLaws.{cid-apart, cid-trans, same_cid-is, same_cid-self}
 use Rattle.lr_base.specs.Rules.{known_of}
 use Rattle.lr_base.specs.declared.messages.Known.{Known}
@@ -13,8 +13,8 @@ use Rattle.lr_graph.specs.Closed.{Each}
 use Rattle.lr_graph.specs.Graph.{Acceptance, calls_of, has_call}
 use Rattle.lr_graph.specs.Sets.{SpotSet, insert_call}
 use Rattle.lr_graph.proofs.Lists.Ascents.{Ascends, same-ascents}
-use Rattle.lr_graph.proofs.Lists.Members.{each-at, each-from, each-map}
-use Rattle.lr_graph.proofs.Sets.Values.{has_call-holds, holds-has_call}
+use Rattle.lr_graph.proofs.Lists.Members.{among-filter, each-at, each-from, each-map, filter-each}
+use Rattle.lr_graph.proofs.Sets.Values.{has_call-holds}
 
 -- ---- by the rules
 
@@ -91,15 +91,16 @@ module _ {Op : Type 0} where
       at_head true rest = ascends-insert_call a.cid (calls_of l x) rest
       at_head false rest = rest
 
-  -- a table with the calls of a set is listed as the set's calls are
-  pub calls-table : (l : List (Acceptance Op)) (x : SpotSet) (calls : List (Cid × Known)) → AreByCall calls → ((cid : Cid) → is_some (known_of calls cid) ≡ has_call l x cid)
-      → calls_of l x ≡ map (λ e. e.0) calls
-  calls-table l x calls apart known =
-      same-ascents cid_before cid-apart cid-trans (calls_of l x) (map (λ e. e.0) calls) (ascends-calls_of l x) (ascends-keys calls apart)
-      (λ cid member. each-at _ cid (calls_of l x) (each-calls_of (λ c. IsAmong c (map (λ e. e.0) calls)) l x
-      (Rattle.lr_graph.proofs.Lists.Members.each-from _ l (λ a in_l here. among-keys calls a.cid (known a.cid ∙ holds-has_call l x a.cid a in_l here refl)))) member)
-      (λ cid member. each-at _ cid (map (λ e. e.0) calls) (each-keys (λ c. IsAmong c (calls_of l x)) calls
-      (each-map _ _ calls (λ e h. back e.0 (has_call-holds l x e.0 (sym (known e.0) ∙ h))) (each-known calls calls (λ c h. h)))) member)
+  -- a table with those calls of a set that pass a test is listed as these are
+  pub calls-table : (l : List (Acceptance Op)) (x : SpotSet) (keep : Cid → Bool) (calls : List (Cid × Known)) → AreByCall calls
+      → ((cid : Cid) → is_some (known_of calls cid) ≡ keep cid) → ((cid : Cid) → keep cid ≡ true → has_call l x cid ≡ true) → filter keep (calls_of l x) ≡ map (λ e. e.0) calls
+  calls-table l x keep calls apart known within =
+      same-ascents cid_before cid-apart cid-trans (filter keep (calls_of l x)) (map (λ e. e.0) calls) (ascends-filter cid_before keep (calls_of l x) (ascends-calls_of l x)) (ascends-keys calls apart)
+      (λ cid member. (let h = each-at _ cid (filter keep (calls_of l x)) (filter-each (λ c. IsAmong c (calls_of l x)) keep (calls_of l x) (each-from _ (calls_of l x) (λ c k. k))) member in among-keys calls cid (known cid ∙ h.1)))
+      (λ cid member. each-at _ cid (map (λ e. e.0) calls) (each-keys (λ c. IsAmong c (filter keep (calls_of l x))) calls
+      (each-map _ _ calls (λ e h. back e.0 (sym (known e.0) ∙ h)) (each-known calls calls (λ c h. h)))) member)
     where
-      back : (cid : Cid) → (a : Acceptance Op) × IsAmong a l × (x a.spot ≡ true) × (a.cid ≡ cid) → IsAmong cid (calls_of l x)
-      back cid h = Rattle.std.proofs.Common.subst (λ (c : Cid). IsAmong c (calls_of l x)) h.3 (among-calls_of l x h.0 h.1 h.2)
+      back : (cid : Cid) → keep cid ≡ true → IsAmong cid (filter keep (calls_of l x))
+      back cid h =
+          let a = has_call-holds l x cid (within cid h) in
+          among-filter keep cid (calls_of l x) (Rattle.std.proofs.Common.subst (λ (c : Cid). IsAmong c (calls_of l x)) a.3 (among-calls_of l x a.0 a.1 a.2)) h

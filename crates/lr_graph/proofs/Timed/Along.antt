@@ -1,5 +1,5 @@
 -- Times are in order after every legal history, and a call that is over stays so.
-use Rattle.std.proofs.Common.{◌≡◌, ℕ, List, [], ◌∷◌, ◌++◌, Some, None, sym, subst, arith}
+use Rattle.std.proofs.Common.{ℕ, List, [], ◌∷◌, ◌++◌, sym, subst, arith}
 use Rattle.lr_base.specs.Meaning.{Meaning}
 use Rattle.lr_base.specs.declared.events.Step.{Step}
 use Rattle.lr_base.specs.declared.names.Cid.{Cid}
@@ -13,19 +13,8 @@ use Rattle.lr_graph.specs.Promises.{facts_of}
 use Rattle.lr_graph.specs.Timed.{IsOver, IsTimed, IsTimely, WasSent}
 use Rattle.lr_graph.proofs.Lists.Members.{each-at, each-map}
 use Rattle.lr_graph.proofs.Promised.Points.{facts-parts, legal-parts}
-use Rattle.lr_graph.proofs.Timed.Keeping.{GoesOn, changes-go_on, changes-timed}
+use Rattle.lr_graph.proofs.Timed.Keeping.{GoesOn, changes-go_on, changes-timed, first-timed}
 use Rattle.lr_graph.proofs.Timed.Steps.{step-changes}
-
-pub first-timed : {Op : Type 0} → IsTimed {Op = Op} first_facts
-first-timed {Op} = record {
-  opened = λ client call is. absurd (none-some call is);
-  answered = λ client cid is. absurd (none-some cid is);
-  sent = tt;
-  noted = tt;
-}
-  where
-    none-some : {A : Type 0} (a : A) → None ≡ Some a → ⊥
-    none-some a e = cc
 
 module _ {Value Op : Type 0} (m : Meaning Value Op) (config : Config) where
   -- along legal steps times stay in order, and what is over stays over

@@ -26,9 +26,16 @@ pub data Change {Op : Type 0} (w : Facts Op) : Facts Op → Type 0 where
   update_answered : (client : ℕ) (names : SpotSet) (call : LabelledCall Op) (cid : Cid)
       → (w.front client).open_call ≡ Some call → call.cid ≡ cid → Change w (takes_reply w client names (Some cid))
   query_answered : (client : ℕ) (names : SpotSet) → Change w (takes_reply w client names (w.front client).answered)
-  replica_changed : (accepted : List (Acceptance Op)) (received : ℕ → SpotSet) (kept : ℕ → List Kept)
+  replica_changed : (accepted : List (Acceptance Op)) (received : ℕ → SpotSet) (told : ℕ → ℕ → SpotSet) (kept : ℕ → List Kept)
       (held : ℕ → List (LabelledCall Op)) (clock : ℕ → ℕ)
-      → Change w (record w { accepted = accepted; received = received; kept = kept; held = held; clock = clock })
+      → Change w (record w {
+        accepted = accepted;
+        received = received;
+        told = told;
+        kept = kept;
+        held = held;
+        clock = clock;
+      })
 
 -- several changes, one after another
 pub data Changes {Op : Type 0} (w : Facts Op) : Facts Op → Type 0 where

@@ -5,7 +5,7 @@ use Rattle.lr_base.specs.Ascending.{same_cid}
 use Rattle.lr_base.specs.declared.names.Cid.{Cid}
 use Rattle.lr_graph.specs.After.{call_read, clock_read, next_call, replied, takes_reply, with_front}
 use Rattle.lr_graph.specs.Closed.{Each}
-use Rattle.lr_graph.specs.Graph.{AckCopy, Carried, Facts, FrontFacts, LabelledCall, UpdateCopy}
+use Rattle.lr_graph.specs.Graph.{AckCopy, Carried, Facts, FrontFacts, LabelledCall, UpdateCopy, first_facts}
 use Rattle.lr_graph.specs.Sets.{SpotSet, put_at}
 use Rattle.lr_graph.specs.Timed.{IsAnsweredOf, IsNotLater, IsOpenOf, IsOver, IsTimed, IsTimely, is_open}
 use Rattle.lr_graph.proofs.Lists.Members.{each-at, each-map}
@@ -96,7 +96,7 @@ module _ {Op : Type 0} where
       front-goes_on w client _ (omega arith) (omega arith) (λ c made closed. refl)
   change-goes_on w next (query_answered client names) =
       front-goes_on w client _ (omega arith) (omega arith) (λ c made closed. refl)
-  change-goes_on w next (replica_changed accepted received kept held clock) = same-goes_on w next refl refl
+  change-goes_on w next (replica_changed accepted received told kept held clock) = same-goes_on w next refl refl
 
   pub changes-go_on : (w next : Facts Op) → Changes w next → GoesOn w next
   changes-go_on w next no_change = record { over = λ cid last h. h; clocks = λ client. omega arith }
@@ -264,10 +264,22 @@ module _ {Op : Type 0} where
         let front = replied names (w.front client).answered (w.front client) in
         front-timed client front on (λ other e. absurd (none-some other e))
         (answered-goes_on next on client front (omega arith))
-    change-timed next (replica_changed accepted received kept held clock) =
-        let on = change-goes_on w next (replica_changed accepted received kept held clock) in
+    change-timed next (replica_changed accepted received told kept held clock) =
+        let on = change-goes_on w next (replica_changed accepted received told kept held clock) in
         same-timed next on refl refl (noted-goes_on next on)
 
   pub changes-timed : (w next : Facts Op) → IsTimed w → Changes w next → IsTimed next
   changes-timed w next h no_change = h
   changes-timed w next h (one_more v u before change) = change-timed v (changes-timed w v h before) u change
+
+-- before any event times are in order
+pub first-timed : {Op : Type 0} → IsTimed {Op = Op} first_facts
+first-timed {Op} = record {
+  opened = λ client call is. absurd (none-some call is);
+  answered = λ client cid is. absurd (none-some cid is);
+  sent = tt;
+  noted = tt;
+}
+  where
+    none-some : {A : Type 0} (a : A) → None ≡ Some a → ⊥
+    none-some a e = cc

@@ -121,7 +121,7 @@ module _ {Value Op : Type 0} (m : Meaning Value Op) (config : Config) where
         accept-changes call time false left = no_change
         accept-changes call time true false = no_change
         accept-changes call time true true =
-            one_more _ _ (one_more w _ no_change (replica_changed _ _ w.kept w.held w.clock)) (message_sent _ tt)
+            one_more _ _ (one_more w _ no_change (replica_changed _ _ w.told w.kept w.held w.clock)) (message_sent _ tt)
 
         update-changes : (call : LabelledCall Op) (time : ℕ) (late : Bool) (taken noted : Option Spot)
             → ChangesBy (Replica i) (UpdateCopy call time) (update_lines config w i call.cid time late taken noted)
@@ -139,7 +139,7 @@ module _ {Value Op : Type 0} (m : Meaning Value Op) (config : Config) where
             → ChangesBy (Replica i) (QueryCopy call) (query_lines m w i call within room)
         query-changes call true room = one_more w _ no_change (message_sent _ tt)
         query-changes call false true =
-            one_more w _ no_change (replica_changed w.accepted w.received w.kept _ w.clock)
+            one_more w _ no_change (replica_changed w.accepted w.received w.told w.kept _ w.clock)
         query-changes call false false = no_change
 
         note-changes : (cid : Cid) (time : ℕ) → WasSent w.messages (AckCopy cid time) → (noted : Option Spot)
@@ -168,7 +168,7 @@ module _ {Value Op : Type 0} (m : Meaning Value Op) (config : Config) where
       message-changes (Replica i) (QueryCopy call) sent = query-changes i call _ _
       message-changes (Replica i) (AckCopy cid time) sent = note-changes i cid time sent _ _ _
       message-changes (Replica i) (GossipOf names) sent =
-          one_more w _ no_change (replica_changed w.accepted _ w.kept w.held w.clock)
+          one_more w _ no_change (replica_changed w.accepted _ _ w.kept w.held w.clock)
       message-changes (Client c) (DoneReply cid names) sent =
           reply-changes c cid (DoneReply cid names) (w.front c).open_call
           (λ call is same. update_answered c names call cid is same)
@@ -192,7 +192,7 @@ module _ {Value Op : Type 0} (m : Meaning Value Op) (config : Config) where
     own-changes h (AckEvent client replica reading) =
         acknowledge-changes w client replica reading h (w.front client).answered refl
     own-changes h (Deliver n) = delivery-changes n _ refl
-    own-changes h (Tick i reading) = one_more w _ no_change (replica_changed w.accepted w.received w.kept w.held _)
+    own-changes h (Tick i reading) = one_more w _ no_change (replica_changed w.accepted w.received w.told w.kept w.held _)
     own-changes h (GossipEvent from to) = one_more w _ no_change (message_sent _ tt)
     own-changes h (Show i) = no_change
 
@@ -227,4 +227,4 @@ module _ {Value Op : Type 0} (m : Meaning Value Op) (config : Config) where
         by_actor None x mid before = before
         by_actor (Some i) x mid before =
             one_more _ _ (answers-changes mid x i (next_number mid) (mid.held i) mid before)
-            (replica_changed _ _ _ _ _)
+            (replica_changed _ _ _ _ _ _)

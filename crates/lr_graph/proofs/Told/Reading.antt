@@ -11,7 +11,7 @@ use Rattle.lr_base.specs.declared.names.Actor.{Actor}
 use Rattle.lr_base.specs.declared.names.Actor.TheVariants.{Client, Replica}
 use Rattle.lr_base.specs.declared.names.Spot.{Spot}
 use Rattle.lr_graph.specs.After.{at_replica, clock_set, note_read, replica_in}
-use Rattle.lr_graph.specs.After.{accept_read, after, carried, event_read, got_read, hold_read, line_read, lines_read, step_ended, stepping, take_read, Handling, handling, with_message}
+use Rattle.lr_graph.specs.After.{accept_read, after, carried, event_read, got_read, hold_read, line_read, lines_read, step_ended, stepping, take_read, Handling, handling, with_message, with_sender}
 use Rattle.lr_graph.specs.Central.{facts_after}
 use Rattle.lr_graph.specs.Graph.{Carried, Facts, SentMessage, UpdateCopy, QueryCopy, AckCopy, DoneReply, AnswerReply, GossipOf}
 use Rattle.lr_graph.specs.Told.{bare}
@@ -45,9 +45,14 @@ module _ {Op : Type 0} where
   bare-hold w (Replica i) (QueryCopy call) = refl
   bare-hold w _ _ = refl
 
-  bare-take : (w : Facts Op) (to : Actor) (what : Carried Op) → bare (take_read (bare w) to what) ≡ bare (take_read w to what)
-  bare-take w (Replica i) (GossipOf names) = refl
-  bare-take w _ _ = refl
+  bare-take : (w : Facts Op) (from to : Actor) (what : Carried Op) → bare (take_read (bare w) from to what) ≡ bare (take_read w from to what)
+  bare-take w from (Replica i) (GossipOf names) = refl
+  bare-take w from _ _ = refl
+
+  -- gossip that comes changes them alike, where some came
+  bare-taken : (w : Facts Op) (o : Option (SentMessage Op)) → bare (with_sender (bare w) o (take_read (bare w))) ≡ bare (with_sender w o (take_read w))
+  bare-taken w None = refl
+  bare-taken w (Some x) = bare-take w x.from x.to x.what
 
   bare-got : (w : Facts Op) (to : Actor) (what : Carried Op) → bare (got_read (bare w) to what) ≡ bare (got_read w to what)
   bare-got w (Client c) (DoneReply cid names) = refl
@@ -68,7 +73,7 @@ module _ {Value Op : Type 0} (m : Meaning Value Op) (config : Config) where
   bare-line x w (Accept spot cid) = bare-came w (λ v. accept_read v spot) (bare-accept w spot) x.came
   bare-line x w (Note spot cid) = bare-came w (λ v. note_read v spot) (bare-note w spot) x.came
   bare-line x w (Hold cid) = bare-came w hold_read (bare-hold w) x.came
-  bare-line x w (Take count) = bare-came w take_read (bare-take w) x.came
+  bare-line x w (Take count) = bare-taken w x.came
   bare-line x w (Got cid) = bare-came w got_read (bare-got w) x.came
   bare-line x w (Stale cid) = refl
   bare-line x w (ClockAt reading) = bare-clock (replica_in x.actor)

@@ -6,7 +6,7 @@ ghost use Rattle.lr_graph.specs.After.{accepts, carried, copy_of};
 ghost use Rattle.lr_graph.specs.After.{ready_at, received_at, take_read, takes_reply};
 ghost use Rattle.lr_graph.specs.Graph.{first_facts, ready, GossipOf, QueryCopy, UpdateCopy};
 ghost use Rattle.lr_graph.specs.Sets.{only, put_at, ◌∪◌};
-ghost use Rattle.lr_graph.specs.Told.{call_of, front_of, fronts_in, load_of, received_in, set_of, told};
+ghost use Rattle.lr_graph.specs.Told.{call_of, front_of, fronts_in, load_of, received_in, set_of, gathered_facts};
 
 use crate::facts::causes::{below_of, ready_spots};
 use crate::facts::fronts::{after_reply, first_front};
@@ -21,7 +21,7 @@ use std::alloc::Global;
 impl<O: Drop> Gathered<O> {
     /// The facts before any event.
     pub fn new(alloc: Global) -> Self
-        ensures { told result ≡ first_facts }
+        ensures { gathered_facts result ≡ first_facts }
     {
         Gathered {
             accepted: Newest::new(alloc),
@@ -44,7 +44,7 @@ impl<O: Drop> Gathered<O> {
     /// What is ready at a replica.
     pub fn ready_at(&self, alloc: Global, replica: u8) -> Result<SpotList, NoMemory>
         ensures { IfOk result (λ spots. set_of spots
-            ≡ ready (told self.now).accepted ((told self.now).received replica)) }
+            ≡ ready (gathered_facts self.now).accepted ((gathered_facts self.now).received replica)) }
     {
         let received = self.received_at(alloc, replica)?;
         ready_spots(alloc, self.accepted.as_slice(), &received)
@@ -79,7 +79,7 @@ impl<O: Operation> Gathered<O> {
 
     // What a message carries that is sent now.
     fn carried(&self, alloc: Global, from: Actor, what: &Sent) -> Result<Load<O>, NoMemory>
-        ensures { IfOk result (λ load. load_of load ≡ carried (told self.now) from what.now) }
+        ensures { IfOk result (λ load. load_of load ≡ carried (gathered_facts self.now) from what.now) }
     {
         match what {
             Sent::Update { cid, time } => {
@@ -111,7 +111,7 @@ impl<O: Operation> Gathered<O> {
 
     // What was received at an actor: nothing at a front end.
     fn received_by(&self, alloc: Global, actor: Actor) -> Result<SpotList, NoMemory>
-        ensures { IfOk result (λ spots. set_of spots ≡ received_at (told self.now) actor) }
+        ensures { IfOk result (λ spots. set_of spots ≡ received_at (gathered_facts self.now) actor) }
     {
         match actor {
             Actor::Replica(replica) => self.received_at(alloc, replica),
@@ -121,7 +121,7 @@ impl<O: Operation> Gathered<O> {
 
     // What is ready at an actor: nothing at a front end.
     fn ready_by(&self, alloc: Global, actor: Actor) -> Result<SpotList, NoMemory>
-        ensures { IfOk result (λ spots. set_of spots ≡ ready_at (told self.now) actor) }
+        ensures { IfOk result (λ spots. set_of spots ≡ ready_at (gathered_facts self.now) actor) }
     {
         match actor {
             Actor::Replica(replica) => self.ready_at(alloc, replica),
@@ -131,16 +131,20 @@ impl<O: Operation> Gathered<O> {
 
     // From now on a replica has received these spots.
     fn set_received(&mut self, replica: u8, spots: SpotList) -> Result<(), NoMemory>
-        ensures { OnOk result (told self.new
-            ≡ record (told self.old) { received = put_at replica (set_of spots) (told self.old).received }) }
+        ensures { OnOk result (gathered_facts self.new
+            ≡ record (gathered_facts self.old) {
+              received = put_at replica (set_of spots) (gathered_facts self.old).received;
+            }) }
     {
         self.received.put(u32::from(replica), spots)
     }
 
     // From now on this is a client's front end.
     pub fn set_front(&mut self, client: u32, front: FrontNow<O>) -> Result<(), NoMemory>
-        ensures { OnOk result (told self.new
-            ≡ record (told self.old) { front = put_at client (front_of front) (told self.old).front }) }
+        ensures { OnOk result (gathered_facts self.new
+            ≡ record (gathered_facts self.old) {
+              front = put_at client (front_of front) (gathered_facts self.old).front;
+            }) }
     {
         self.fronts.put(client, front)
     }
@@ -154,13 +158,13 @@ impl<O: Operation> Gathered<O> {
         to: Actor,
         what: &Sent,
     ) -> Result<(), NoMemory>
-        ensures { OnOk result (told self.new ≡ record (told self.old) {
+        ensures { OnOk result (gathered_facts self.new ≡ record (gathered_facts self.old) {
           messages = record {
             number = number;
             from = from;
             to = to;
-            what = carried (told self.old) from what.now;
-          } ∷ (told self.old).messages;
+            what = carried (gathered_facts self.old) from what.now;
+          } ∷ (gathered_facts self.old).messages;
         }) }
     {
         let load = self.carried(alloc, from, what)?;
@@ -180,7 +184,8 @@ impl<O: Operation> Gathered<O> {
         spot: Spot,
         call: &CallCopy<O>,
     ) -> Result<(), NoMemory>
-        ensures { OnOk result (told self.new ≡ accepts (told self.old) replica spot (call_of call.now)) }
+        ensures { OnOk result (gathered_facts self.new
+            ≡ accepts (gathered_facts self.old) replica spot (call_of call.now)) }
     {
         self.receive(alloc, replica, spot)?;
         let mut below = call.label.copy()?;
@@ -196,9 +201,9 @@ impl<O: Operation> Gathered<O> {
 
     // A replica receives one item more.
     pub fn receive(&mut self, alloc: Global, replica: u8, spot: Spot) -> Result<(), NoMemory>
-        ensures { OnOk result (told self.new ≡ record (told self.old) {
-          received = put_at replica ((told self.old).received replica ∪ only spot) (told self.old).received;
-        }) }
+        ensures { let w = gathered_facts self.old in
+            OnOk result (gathered_facts self.new
+            ≡ record w { received = put_at replica (w.received replica ∪ only spot) w.received }) }
     {
         let mut received = self.received_at(alloc, replica)?;
         received.add(spot)?;
@@ -207,8 +212,9 @@ impl<O: Operation> Gathered<O> {
 
     // A replica receives what gossip carries.
     pub fn take(&mut self, alloc: Global, replica: u8, names: &SpotList) -> Result<(), NoMemory>
-        ensures { OnOk result (told self.new
-            ≡ take_read (told self.old) (Replica replica) (GossipOf (set_of names.now))) }
+        ensures { let w = gathered_facts self.old in
+            OnOk result (gathered_facts self.new
+            ≡ record w { received = put_at replica (w.received replica ∪ set_of names.now) w.received }) }
     {
         let mut received = self.received_at(alloc, replica)?;
         add_all(&mut received, names)?;
@@ -223,8 +229,8 @@ impl<O: Operation> Gathered<O> {
         names: &SpotList,
         update: Option<Cid>,
     ) -> Result<(), NoMemory>
-        ensures { OnOk result (told self.new ≡ takes_reply (told self.old) client (set_of names.now)
-            (option_or update ((told self.old).front client).answered)) }
+        ensures { OnOk result (gathered_facts self.new ≡ takes_reply (gathered_facts self.old) client (set_of names.now)
+            (option_or update ((gathered_facts self.old).front client).answered)) }
     {
         let front = self.front_at(alloc, client)?;
         let front = after_reply(front, names, update)?;

@@ -6,7 +6,7 @@ ghost use Rattle.lr_graph.specs.After.{clock_read, with_front};
 ghost use Rattle.lr_graph.specs.After.{accept_read, acting, got_read, note_read, receiver, take_read};
 ghost use Rattle.lr_graph.specs.Central.{facts_after};
 ghost use Rattle.lr_graph.specs.Graph.{Facts, first_facts};
-ghost use Rattle.lr_graph.specs.Told.{bare, handling_of, load_of, sent_message_of, told};
+ghost use Rattle.lr_graph.specs.Told.{bare, handling_of, load_of, sent_message_of, gathered_facts};
 
 use crate::facts::fronts::{after_call, after_reading};
 use crate::facts::items::{Gathered, Handled, Load, SentCopy};
@@ -17,7 +17,7 @@ use std::alloc::Global;
 impl<O: Operation> Gathered<O> {
     // A call is made, if the event is one.
     fn read_event(&mut self, alloc: Global, event: &Event<O>) -> Result<(), NoMemory>
-        ensures { OnOk result (told self.new ≡ event_read (told self.old) event.now) }
+        ensures { OnOk result (gathered_facts self.new ≡ event_read (gathered_facts self.old) event.now) }
     {
         match event {
             Event::Call {
@@ -46,8 +46,8 @@ impl<O: Operation> Gathered<O> {
 
     // A front end reads its clock.
     fn read_clock(&mut self, alloc: Global, client: u32, reading: u64) -> Result<(), NoMemory>
-        ensures { let w = told self.old in
-            OnOk result (told self.new ≡ with_front w client (clock_read reading (w.front client))) }
+        ensures { let w = gathered_facts self.old in
+            OnOk result (gathered_facts self.new ≡ with_front w client (clock_read reading (w.front client))) }
     {
         let front = self.front_at(alloc, client)?;
         self.set_front(client, after_reading(front, reading))
@@ -55,7 +55,8 @@ impl<O: Operation> Gathered<O> {
 
     // The message that an event delivers, if there is one.
     fn delivery_of(&self, event: &Event<O>) -> Result<Option<SentCopy<O>>, NoMemory>
-        ensures { IfOk result (λ came. option_map sent_message_of came ≡ delivery_of (told self.now) event.now) }
+        ensures { IfOk result (λ came.
+            option_map sent_message_of came ≡ delivery_of (gathered_facts self.now) event.now) }
     {
         match event {
             Event::Deliver { message } => copy_numbered(self.messages.as_slice(), *message),
@@ -65,7 +66,7 @@ impl<O: Operation> Gathered<O> {
 
     // Whose step an event is, and the message that it delivers.
     fn handling_of(&self, event: &Event<O>) -> Result<Handled<O>, NoMemory>
-        ensures { IfOk result (λ x. handling_of x ≡ handling (told self.now) event.now) }
+        ensures { IfOk result (λ x. handling_of x ≡ handling (gathered_facts self.now) event.now) }
     {
         let came = self.delivery_of(event)?;
         let actor = actor_of(event, &came);
@@ -74,7 +75,8 @@ impl<O: Operation> Gathered<O> {
 
     // `accept`: a replica that an update came to accepts its call.
     fn read_accept(&mut self, alloc: Global, spot: Spot, came: &SentCopy<O>) -> Result<(), NoMemory>
-        ensures { OnOk result (told self.new ≡ accept_read (told self.old) spot came.now.to (load_of came.now.load)) }
+        ensures { OnOk result (gathered_facts self.new
+            ≡ accept_read (gathered_facts self.old) spot came.now.to (load_of came.now.load)) }
     {
         let Actor::Replica(replica) = came.to else {
             return Ok(());
@@ -87,8 +89,8 @@ impl<O: Operation> Gathered<O> {
 
     // `note`: a replica that an acknowledgement came to notes it.
     fn read_note(&mut self, alloc: Global, spot: Spot, came: &SentCopy<O>) -> Result<(), NoMemory>
-        ensures { OnOk result (told self.new
-            ≡ bare (note_read (told self.old) spot came.now.to (load_of came.now.load))) }
+        ensures { OnOk result (gathered_facts self.new
+            ≡ bare (note_read (gathered_facts self.old) spot came.now.to (load_of came.now.load))) }
     {
         let Actor::Replica(replica) = came.to else {
             return Ok(());
@@ -104,7 +106,8 @@ impl<O: Operation> Gathered<O> {
 
     // `take`: a replica that gossip came to receives what it carries.
     fn read_take(&mut self, alloc: Global, came: &SentCopy<O>) -> Result<(), NoMemory>
-        ensures { OnOk result (told self.new ≡ take_read (told self.old) came.now.to (load_of came.now.load)) }
+        ensures { OnOk result (gathered_facts self.new
+            ≡ bare (take_read (gathered_facts self.old) came.now.from came.now.to (load_of came.now.load))) }
     {
         let Actor::Replica(replica) = came.to else {
             return Ok(());
@@ -117,7 +120,8 @@ impl<O: Operation> Gathered<O> {
 
     // `got`: a front end that a reply came to takes it.
     fn read_got(&mut self, alloc: Global, came: &SentCopy<O>) -> Result<(), NoMemory>
-        ensures { OnOk result (told self.new ≡ got_read (told self.old) came.now.to (load_of came.now.load)) }
+        ensures { OnOk result (gathered_facts self.new
+            ≡ got_read (gathered_facts self.old) came.now.to (load_of came.now.load)) }
     {
         let Actor::Client(client) = came.to else {
             return Ok(());
@@ -139,9 +143,9 @@ fn read_of_message<S: Service>(
     came: &SentCopy<S::Op>,
     line: &Outcome,
 ) -> Result<(), NoMemory>
-    ensures { OnOk result (told facts.new
+    ensures { OnOk result (gathered_facts facts.new
         ≡ bare (line_read S.meaning config (record { actor = actor; came = Some (sent_message_of came.now) })
-        (told facts.old) line.now)) }
+        (gathered_facts facts.old) line.now)) }
 {
     match line {
         Outcome::Send {
@@ -166,8 +170,9 @@ fn read_alone<S: Service>(
     actor: Option<Actor>,
     line: &Outcome,
 ) -> Result<(), NoMemory>
-    ensures { OnOk result (told facts.new
-        ≡ bare (line_read S.meaning config (record { actor = actor; came = None }) (told facts.old) line.now)) }
+    ensures { OnOk result (gathered_facts facts.new
+        ≡ bare (line_read S.meaning config (record { actor = actor; came = None })
+        (gathered_facts facts.old) line.now)) }
 {
     match line {
         Outcome::Send {
@@ -188,8 +193,8 @@ fn read_line<S: Service>(
     handled: &Handled<S::Op>,
     line: &Outcome,
 ) -> Result<(), NoMemory>
-    ensures { OnOk result (told facts.new
-        ≡ bare (line_read S.meaning config (handling_of handled.now) (told facts.old) line.now)) }
+    ensures { OnOk result (gathered_facts facts.new
+        ≡ bare (line_read S.meaning config (handling_of handled.now) (gathered_facts facts.old) line.now)) }
 {
     match &handled.came {
         Some(message) => {
@@ -272,8 +277,8 @@ fn read_lines<S: Service>(
     handled: &Handled<S::Op>,
     lines: &[Outcome],
 ) -> Result<(), NoMemory>
-    ensures { OnOk result (told facts.new
-        ≡ bare (lines_read S.meaning config (handling_of handled.now) (told facts.old) lines.now)) }
+    ensures { OnOk result (gathered_facts facts.new
+        ≡ bare (lines_read S.meaning config (handling_of handled.now) (gathered_facts facts.old) lines.now)) }
 {
     for line in lines {
         read_line::<S>(facts, alloc, config, handled, line)?;
@@ -288,7 +293,8 @@ fn read_step<S: Service>(
     config: Config,
     step: &Step<S::Op>,
 ) -> Result<(), NoMemory>
-    ensures { OnOk result (told facts.new ≡ bare (after S.meaning config (told facts.old) step.now)) }
+    ensures { OnOk result (gathered_facts facts.new
+        ≡ bare (after S.meaning config (gathered_facts facts.old) step.now)) }
 {
     let handled = facts.handling_of(&step.event)?;
     facts.read_event(alloc, &step.event)?;
@@ -301,7 +307,8 @@ pub fn facts_of<S: Service>(
     config: Config,
     history: &[Step<S::Op>],
 ) -> Result<Gathered<S::Op>, NoMemory>
-    ensures { IfOk result (λ facts. told facts ≡ bare (facts_after S.meaning config first_facts history.now)) }
+    ensures { IfOk result (λ facts.
+        gathered_facts facts ≡ bare (facts_after S.meaning config first_facts history.now)) }
 {
     let mut facts = Gathered::new(alloc);
     for step in history {

@@ -6,7 +6,7 @@ use crate::outbox::Outbox;
 use crate::replica::Replica;
 use crate::task::Task;
 use lr_base::lr_service::{Kind, Operation, Service};
-use lr_base::{Actor, Call, Cid, Config, Message, NoMemory, Outcome, Stamp};
+use lr_base::{Actor, Call, Cid, Config, LAST_NUMBER, Message, NoMemory, Outcome, Stamp};
 use std::alloc::Global;
 use std::process::Abort;
 use std::test::Fail;
@@ -19,12 +19,14 @@ const THREE_REPLICAS: Config = Config {
 };
 
 // A stamp for three replicas.
-fn stamp(parts: &[u64; 4]) -> Stamp {
+fn stamp(rt: &impl Abort, parts: &[u64; 4]) -> Stamp {
+    let [first, second, third, order] = *parts;
+    assert!(rt; first.max(second).max(third).max(order) <= LAST_NUMBER);
     let mut stamp = Stamp::zero(4);
-    stamp.set_part(0, parts[0]);
-    stamp.set_part(1, parts[1]);
-    stamp.set_part(2, parts[2]);
-    stamp.set_part(3, parts[3]);
+    stamp.set_part(0, first);
+    stamp.set_part(1, second);
+    stamp.set_part(2, third);
+    stamp.set_part(3, order);
     stamp
 }
 
@@ -69,7 +71,7 @@ fn call(
     ensures { replica.new.config ≡ THREE_REPLICAS }
 {
     let op = Tally::read_op(alloc, op.as_bytes())?;
-    let prev = stamp(label);
+    let prev = stamp(rt, label);
     assert!(rt; prev.parts() == 4);
     let kind = Tally::kind(&op);
     let cid = Cid { client: 0, seq };

@@ -1,6 +1,7 @@
 use Rattle.std.proofs.Common.{◌-◌, ◌+◌, ◌∷◌, [], arith, length-append, ◌∙◌}
 use Rattle.lr_base.specs.RowLaws.{joined-more}
 use Rattle.lr_codec.specs.Parts.{part_format}
+use Rattle.lr_codec.proofs.Stamps.{part-low}
 use Rattle.lr_codec.proofs.parts.stamp_field.Goals as goal
 
 pub loop-preserved : goal.loop-preserved
@@ -11,3 +12,6 @@ loop-preserved c =
           (omega arith) c.in_ok-number.ensures ∙ c.loop.invariant.reads;
       count = omega (arith, length-append c.loop.stamp (c.in_ok-number.number ∷ []), c.loop.invariant.count);
     }
+
+pub push-requires-clause-number : goal.push-requires-clause-number
+push-requires-clause-number c = part-low c.loop.rest.now c.in_ok-number.number c.in_ok-number.end.now c.in_ok-number.ensures

@@ -1,11 +1,19 @@
-use Rattle.std.proofs.Common.{◌≡◌, ◌∙◌, ap, filter, take, ℕ}
+use Rattle.std.proofs.Common.{◌≡◌, ◌∙◌, ap, filter, length, not, take, ℕ}
 use Rattle.std.specs.Prelude.{nat_le}
 use Rattle.std.proofs.lemmas.List.{take_rest}
 use Rattle.std.proofs.lemmas.Result.{on_ok_weaker}
+use Rattle.lr_base.specs.Logged.{Fits}
 use Rattle.lr_base.specs.Stamps.{part}
 use Rattle.lr_value.specs.Waiting.{behind}
 use Rattle.lr_value.proofs.Gathered.{add-recalled}
+use Rattle.lr_value.proofs.Numbered.{index-filter}
 use Rattle.lr_value.proofs.gathering.add_place.Goals as goal
+
+pub add_waiting-requires-2 : goal.add_waiting-requires-2
+add_waiting-requires-2 g c =
+    let updates = c.args.updates.now in
+    index-filter (Fits (length c.args.val_ts.now)) (λ u. not (nat_le u.spot.number c.part.result)) updates _
+    (take_rest updates c.first_past-new.result ∙ c.first_past-new.ensures.past) c.requires.fit
 
 pub returns : goal.returns
 returns g c =

@@ -1,10 +1,10 @@
-use Rattle.std.proofs.Common.{◌≡◌, ◌∙◌, ◌+◌, ap, length, refl, subst, sym, Some}
-use Rattle.lr_base.specs.Logged.{AllKnown}
+use Rattle.std.proofs.Common.{◌≡◌, ◌∙◌, ◌+◌, ℕ, List, ap, length, refl, subst, sym, Some}
+use Rattle.lr_base.specs.Logged.{AllKnown, AllReceived}
 use Rattle.lr_value.specs.Applied.{IsOlderOf, progress}
 use Rattle.lr_value.specs.Remembered.{Remembers}
 use Rattle.lr_causal.specs.Causal.{HasSeen, NoneApplied}
 use Rattle.lr_causal.specs.Savepoint.{Saved, kept_first}
-use Rattle.lr_causal.specs.State.{state_of}
+use Rattle.lr_causal.specs.State.{replica_of}
 use Rattle.lr_calls.specs.Tables.{without}
 use Rattle.lr_causal.proofs.Facts.{AllLogged-along}
 use Rattle.lr_causal.proofs.Points.{point-applied}
@@ -15,9 +15,9 @@ pub apply_ready-requires : goal.apply_ready-requires
 apply_ready-requires g c =
     let it = c.args.self.now in record {
       logged = AllLogged-along g.S.Op.Operation.kind_of _ _ it.log.updates _ refl it.val_parts it.logged;
-      all_received = it.updates_received;
+      all_received = subst (λ (s : List ℕ). AllReceived s it.log.updates) (sym c.own.ensures.own) it.updates_received;
       remembered = it.remembers;
-      parts = it.rep_parts ∙ sym it.val_parts;
+      parts = ap length c.own.ensures.own ∙ it.rep_parts ∙ sym it.val_parts;
     }
 
 -- ---- where there is no memory
@@ -38,7 +38,7 @@ invariant_of-self-clause-remembers g c =
 
 pub invariant_of-self-clause-seen : goal.invariant_of-self-clause-seen
 invariant_of-self-clause-seen g c =
-    let it = c.args.self.now in subst (λ v. HasSeen it.rep_ts v.memory) (sym c.in_default.ensures.err.0) it.seen
+    let it = c.args.self.now in subst (λ v. HasSeen it.table.own v.memory) (sym c.in_default.ensures.err.0) it.seen
 
 pub invariant_of-self-clause-waits : goal.invariant_of-self-clause-waits
 invariant_of-self-clause-waits g c known =
@@ -62,7 +62,7 @@ invariant_of-self-in-Some-clause-remembers g c = c.in-Ok.ensures.settled.0.remem
 pub invariant_of-self-in-Some-clause-seen : goal.invariant_of-self-in-Some-clause-seen
 invariant_of-self-in-Some-clause-seen g c =
     let it = c.args.self.now in
-    HasSeen-looked it.rep_ts it.rep_ts c.apply_ready.new.value.memory refl c.in-Ok.ensures.settled.0.looked
+    HasSeen-looked it.table.own c.own.result.now c.apply_ready.new.value.memory c.own.ensures.own c.in-Ok.ensures.settled.0.looked
 
 pub returns-in-Some-clause-point : goal.returns-in-Some-clause-point
 returns-in-Some-clause-point g c before point =
@@ -75,7 +75,7 @@ returns-in-Some-clause-point g c before point =
       applied = Some (kept_first p.applied c.in-Some.older);
     }) c.point.view_is in
     let undo = c.in-Ok.ensures.undo ∙ ap (λ (p : Saved _). without p.entered it.calls) c.point.view_is in
-    point-applied c.args.point.now c.keep.new.self (state_of it) before c.in-Some.older c.apply_ready.new.value
+    point-applied c.args.point.now c.keep.new.self (replica_of it) before c.in-Some.older c.apply_ready.new.value
     c.apply_ready.new.calls c.apply_ready.new.entered.items keeps lags undo (it.val_parts ∙ sym it.rep_parts) point
 
 -- ---- where nothing is
@@ -95,7 +95,7 @@ invariant_of-self-in_default-older-clause-remembers g c = c.in-Ok.ensures.settle
 pub invariant_of-self-in_default-older-clause-seen : goal.invariant_of-self-in_default-older-clause-seen
 invariant_of-self-in_default-older-clause-seen g c =
     let it = c.args.self.now in
-    HasSeen-looked it.rep_ts it.rep_ts c.apply_ready.new.value.memory refl c.in-Ok.ensures.settled.0.looked
+    HasSeen-looked it.table.own c.own.result.now c.apply_ready.new.value.memory c.own.ensures.own c.in-Ok.ensures.settled.0.looked
 
 pub invariant_of-self-in_default-older-clause-waits : goal.invariant_of-self-in_default-older-clause-waits
 invariant_of-self-in_default-older-clause-waits g c known =

@@ -12,7 +12,7 @@ invariant_of-self-clause-remembers g c =
 
 pub invariant_of-self-clause-seen : goal.invariant_of-self-clause-seen
 invariant_of-self-clause-seen g c =
-    let it = c.args.self.now in subst (λ v. HasSeen it.rep_ts v.memory) (sym c.keep.ensures) it.seen
+    let it = c.args.self.now in subst (λ v. HasSeen it.table.own v.memory) (sym c.keep.ensures) it.seen
 
 pub invariant_of-self-clause-waits : goal.invariant_of-self-clause-waits
 invariant_of-self-clause-waits g c known =

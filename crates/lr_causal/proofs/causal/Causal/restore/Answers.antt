@@ -2,17 +2,17 @@ use Rattle.std.proofs.Common.{◌∙◌, ap, length, refl, sym}
 use Rattle.lr_causal.specs.Savepoint.{Saved}
 use Rattle.lr_causal.proofs.Facts.{AllLogged-filter}
 use Rattle.lr_causal.proofs.Received.{AllAcksReceived-stays, AllReceived-stays}
-use Rattle.lr_causal.proofs.StampRows.{AllStamps-count}
+use Rattle.lr_log.specs.Tables.{Told}
 use Rattle.lr_causal.proofs.Entered.{AllKnown-without}
 use Rattle.lr_causal.proofs.causal.Causal.restore.Goals as goal
 
 pub invariant_of-self-clause-updates_received : goal.invariant_of-self-clause-updates_received
 invariant_of-self-clause-updates_received g c =
-    AllReceived-stays c.point.inside.rep_ts _ c.args.self.now.log.updates c.drop_new.new.self.updates refl c.drop_new.ensures.updates
+    AllReceived-stays c.point.inside.rep_ts c.put_own.new.self.own c.args.self.now.log.updates c.drop_new.new.self.updates (ap (λ (t : Told). t.own) c.put_own.ensures) c.drop_new.ensures.updates
 
 pub invariant_of-self-clause-acks_received : goal.invariant_of-self-clause-acks_received
 invariant_of-self-clause-acks_received g c =
-    AllAcksReceived-stays c.point.inside.rep_ts _ c.args.self.now.log.acks c.drop_new.new.self.acks refl c.drop_new.ensures.acks
+    AllAcksReceived-stays c.point.inside.rep_ts c.put_own.new.self.own c.args.self.now.log.acks c.drop_new.new.self.acks (ap (λ (t : Told). t.own) c.put_own.ensures) c.drop_new.ensures.acks
 
 pub invariant_of-self-clause-known : goal.invariant_of-self-clause-known
 invariant_of-self-clause-known g c =
@@ -21,13 +21,3 @@ invariant_of-self-clause-known g c =
 pub invariant_of-self-clause-logged : goal.invariant_of-self-clause-logged
 invariant_of-self-clause-logged g c =
     AllLogged-filter g.S.Op.Operation.kind_of _ _ c.args.self.now.log.updates c.drop_new.new.self.updates c.drop_new.ensures.updates c.args.self.now.logged
-
-pub put_row-requires-clause-parts : goal.put_row-requires-clause-parts
-put_row-requires-clause-parts g c =
-    AllStamps-count _ _ c.args.self.now.table.items
-    (sym (ap (λ (p : Saved _). length p.row) c.point.view_is ∙ c.requires.row_parts ∙ c.args.self.now.rep_parts)) c.args.self.now.row_parts
-
-pub invariant_of-self-clause-row_parts : goal.invariant_of-self-clause-row_parts
-invariant_of-self-clause-row_parts g c =
-    AllStamps-count _ _ c.put_row.new.table.items
-    (ap (λ (p : Saved _). length p.row) c.point.view_is ∙ c.requires.row_parts ∙ c.args.self.now.rep_parts) c.put_row.ensures.parts

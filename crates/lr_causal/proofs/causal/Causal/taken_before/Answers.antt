@@ -9,7 +9,7 @@ stamp-requires g c =
     (sym c.first_update.ensures ∙ ap option_copied c.in_ok-update.was) in
     let place = logged.place in
     let prev = logged.prev in
-    omega arith
+    record { place = omega arith; number = logged.number }
 
 pub returns-clause-parts : goal.returns-clause-parts
 returns-clause-parts g c =

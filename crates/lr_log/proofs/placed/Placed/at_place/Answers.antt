@@ -3,8 +3,8 @@ use Rattle.lr_base.specs.Places.{items_at}
 use Rattle.lr_log.proofs.RowLemmas.{items_at-past, items_at-row}
 use Rattle.lr_log.proofs.placed.Placed.at_place.Goals as goal
 
-pub returns-then-at-len : goal.returns-then-at-len
-returns-then-at-len g c =
+pub returns-then-place-len : goal.returns-then-place-len
+returns-then-place-len g c =
     c.as_slice.ensures
     ∙ items_at-row g.T.AtSpot.spot_of c.args.place c.self.inside.rows.items c.index.result.now c.index.result.now
     c.self.invariant.placed
