@@ -127,7 +127,7 @@ module _ {Value Op : Type 0} (kind_of : Op → Kind) (r : ReplicaState Value Op)
   fitting-ack cid time None true false = (tt, tt)
   fitting-ack cid time None true true = (tt, tt)
 
-  fitting-gossip : (from : ℕ) (gossip : Gossip Op) (own : Bool) → AllFitting kind_of config (gossip_given from state gossip own).acts
+  fitting-gossip : (from : ℕ) (gossip : Gossip Op) (own : Bool) → AllFitting kind_of config (gossip_given r.me from state gossip own).acts
   fitting-gossip from gossip true = tt
   fitting-gossip from gossip false = (tt, tt)
 
@@ -153,7 +153,7 @@ module _ {Value Op : Type 0} (kind_of : Op → Kind) (r : ReplicaState Value Op)
   fitting-own m (Tell to) fits = (
     record {
       to_known = lt-ltb to config.replicas fits;
-      shaped = record { client = refl; kind = refl; stamps = one-stamp kind_of config state.rep_ts sound.told.rep_parts; told = λ g e. let same : gossip_of state ≡ g = cc in subst (IsGossip kind_of parts) same sound.told };
+      shaped = record { client = refl; kind = refl; stamps = one-stamp kind_of config state.rep_ts (sound.told to).rep_parts; told = λ g e. let same : gossip_of to state ≡ g = cc in subst (IsGossip kind_of parts) same (sound.told to) };
     },
     tt,
   )

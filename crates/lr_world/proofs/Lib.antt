@@ -1,4 +1,5 @@
 pub mod Everywhere
+pub mod Telling
 pub mod Outboxing
 pub mod Answering
 pub mod Shaped

@@ -21,13 +21,13 @@ pub record IsAsked {Op : Type 0} (kind_of : Op → Kind) (config : Config) (call
 abbrev pub AllAsked : {Op : Type 0} → (Op → Kind) → Config → List (Call Op) → Type 0
 AllAsked kind_of config calls = (k : ℕ) → ForSome (slice_get calls k) (IsAsked kind_of config)
 
--- a replica of its run: each stamp has a part for each place, what it would tell can be taken, and each held query is
--- one of the run
+-- a replica of its run: each stamp has a part for each place, what it would tell any other can be taken, and each held
+-- query is one of the run
 -- for example: `first_replica`
 pub record IsSound {Value Op : Type 0} (kind_of : Op → Kind) (r : ReplicaState Value Op) : Type 0 where
   pub own_place : r.me < r.config.replicas
   pub val_parts : length r.causal.val_ts ≡ r.config.replicas + 1
   pub imm_parts : length r.causal.imm_ts ≡ r.config.replicas + 1
-  pub told : IsGossip kind_of (r.config.replicas + 1) (gossip_of r.causal)
+  pub told : (to : ℕ) → IsGossip kind_of (r.config.replicas + 1) (gossip_of to r.causal)
   pub known : AllKnown (r.config.replicas + 1) r.causal.calls
   pub asked : AllAsked kind_of r.config r.causal.held
