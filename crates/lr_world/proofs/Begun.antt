@@ -99,7 +99,7 @@ made-front kind_of config client was now event out after (Err e) next own did er
 module _ {Value Op : Type 0} where
   -- a replica ends its step
   pub finished-run : (run : RunState Value Op) (me : ℕ) (r next : ReplicaState Value Op) → slice_get run.replicas me ≡ Some r
-      → next ≡ record r { causal = finished r.config.replicas r.causal } → record run { replicas = set run.replicas me next } ≡ replica_finished run me (slice_get run.replicas me)
+      → next ≡ record r { causal = finished r.config.delta r.causal } → record run { replicas = set run.replicas me next } ≡ replica_finished run me (slice_get run.replicas me)
   finished-run run me r next there is =
       ap (λ (n : ReplicaState Value Op). record run { replicas = set run.replicas me n }) is ∙ ap (replica_finished run me) (sym there)
 
