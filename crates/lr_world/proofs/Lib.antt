@@ -1,5 +1,4 @@
 pub mod Everywhere
-pub mod Telling
 pub mod Outboxing
 pub mod Answering
 pub mod Shaped
