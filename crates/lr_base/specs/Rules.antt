@@ -275,7 +275,8 @@ unknown_updates table updates = filter (λ u. not (known_in table u.spot)) updat
 abbrev pub undone_calls : {Op : Type 0} → List (LogUpdate Op) → List LogAck → List (Cid × Known) → List (Cid × Known)
 undone_calls updates acks calls = filter (λ e. not (logs_ack acks e.0 && not (logs_update updates e.0))) calls
 
--- whether an acknowledgement is of no use any more: all replicas have it, it is late, and no update of its call is logged
+-- whether an acknowledgement is of no use any more: all replicas have it, it is late, and no update of its call is
+-- logged
 -- for example: that of `0.1` at 7 once the clock is 18, with a delta of 10
 abbrev pub is_spent : {Op : Type 0} → ℕ → ℕ → List Stamp → List (LogUpdate Op) → LogAck → Bool
 is_spent delta clock table updates ack =

@@ -1,8 +1,8 @@
 -- The laws of the order of stamps, of their join, and of writing a part.
 -- Facts with their proofs: `stamp_le` is an order and goes part by part, a part of a `join` is the greater of the two,
 -- and `set_part` changes one part.
-use Rattle.std.proofs.Common.{◌≡◌, ◌≢◌, ◌<◌, ℕ, zero, suc, max, min, true, ◌==◌, nat_le, [], ◌∷◌, length, replicate, refl}
-use Rattle.std.proofs.Common.{arith, eq-eqb, eqb-true, leb-true, le-leb}
+use Rattle.std.proofs.Common.{◌≡◌, ◌≢◌, ◌<◌, ℕ, zero, suc, max, min, true, ◌==◌, nat_le, [], ◌∷◌, length, replicate}
+use Rattle.std.proofs.Common.{refl, arith, eq-eqb, eqb-true, leb-true, le-leb}
 use Rattle.std.proofs.lemmas.Bool.{and_parts}
 use Rattle.lr_base.specs.Stamps.{Stamp, part, join, meet, stamp_le, set_part}
 use Rattle.lr_base.specs.Lattice.{IsLeastAbove, IsPartwise}
