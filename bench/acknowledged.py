@@ -1,13 +1,15 @@
 """Scripts in which one call in ten is sent again, each answered update is acknowledged, and replicas read their clocks.
 A small model of the replicas tells which number each message gets, so that a later event can deliver it; a script whose
-numbers were wrong would print `none` lines."""
+numbers were wrong would print `none` lines. It forgets as replicas do: a copy of a call that left has no reply."""
+import collections
 import random
 
 from several_replicas import CLIENTS, COUNTERS, ELSEWHERE_IN_A_HUNDRED, GOSSIP_IN_A_HUNDRED, SEED
 from several_replicas import covers, join, operation
 
-# so few that no log is ever full of updates and acknowledgements
-UPDATES = 200
+# how many items are logged anywhere before clients only read for a while, so few that no log gets full
+BUSY = 400
+LOG_ROOM = 512
 AGAIN_IN_A_HUNDRED = 10
 TICKS_IN_A_HUNDRED = 2
 DELTA = 1000
@@ -26,70 +28,126 @@ class Call:
 
 
 class Item:
-    """What a replica logs: an update with its stamp, or the acknowledgement of a call."""
+    """What a replica logs: an update with its stamp, or the acknowledgement of a call with its time."""
 
-    def __init__(self, spot, name, label=None, stamp=None):
+    def __init__(self, spot, name, label=None, stamp=None, time=None):
         self.spot = spot
         self.name = name
         self.label = label
         self.stamp = stamp
+        self.time = time
+
+    def is_update(self):
+        return self.stamp is not None
+
+    def is_new(self, received):
+        place, number = self.spot
+        return number > received[place]
 
 
 class Replica:
-    def __init__(self, replicas, index):
+    """What it has received and applied, what each replica told it, and what it hasn't forgotten."""
+
+    def __init__(self, replicas, index, logged):
         self.index = index
         self.clock = 0
-        self.received = [0] * replicas
         self.applied = [0] * replicas
-        self.log = []
-        self.pending = []
+        # What each replica told that it has received; the own row is what was received here.
+        self.told = [[0] * replicas for _ in range(replicas)]
+        # The logged items by their spots, and how many replicas log an item.
+        self.log = {}
+        self.logged = logged
         self.held = []
-        # The stamp of each update of a call that is known here, by the call's name, and which calls are acknowledged.
+        # The stamp of the executed update of each call that is known here, by the call's name.
         self.known = {}
-        self.noted = set()
+        # Whether pruning may find something.
+        self.is_changed = False
+
+    def received(self):
+        return self.told[self.index]
 
     def next_spot(self):
-        return self.index, self.received[self.index] + 1
+        return self.index, self.received()[self.index] + 1
 
     def receive(self, item):
         place, number = item.spot
-        self.log.append(item)
-        self.received[place] = max(self.received[place], number)
-        if item.stamp is None:
-            self.noted.add(item.name)
-        else:
-            self.pending.append(item)
-            self.known.setdefault(item.name, item.stamp)
+        self.log[item.spot] = item
+        self.logged[item.spot] += 1
+        self.received()[place] = max(self.received()[place], number)
+        self.is_changed = True
+
+    def leave(self, item):
+        del self.log[item.spot]
+        self.logged[item.spot] -= 1
+        if self.logged[item.spot] == 0:
+            del self.logged[item.spot]
+
+    def has_room(self):
+        return len(self.log) < LOG_ROOM
 
     def accept(self, call):
+        assert self.has_room()
         place, number = self.next_spot()
         stamp = list(call.label)
         stamp[place] = number
         self.receive(Item((place, number), call.name, call.label, stamp))
         return stamp
 
-    def take(self, received, log):
-        for item in log:
-            place, number = item.spot
-            if number > self.received[place]:
+    def note(self, call, time):
+        if not self.is_noted(call.name):
+            assert self.has_room()
+            self.receive(Item(self.next_spot(), call.name, time=time))
+
+    def is_noted(self, name):
+        return any(item.name == name for item in self.log.values() if not item.is_update())
+
+    def taken_before(self, name):
+        """The stamp of the call's update: the executed one, or else the one logged at the least spot."""
+        logged = [item for item in self.log.values() if item.is_update() and item.name == name]
+        least = min(logged, key=lambda item: item.spot, default=None)
+        return self.known.get(name, least and least.stamp)
+
+    def gossip_for(self, receiver):
+        """What it has received, and what it logs and the receiver hasn't told that it has."""
+        return list(self.received()), [item for item in self.log.values() if item.is_new(self.told[receiver])]
+
+    def take(self, sender, received, items):
+        for item in items:
+            if item.is_new(self.received()):
                 self.receive(item)
-        self.received = join(self.received, received)
+        for row in {sender, self.index}:
+            self.told[row] = join(self.told[row], received)
+        self.is_changed = True
+
+    def read_clock(self, reading):
+        self.clock = reading
+        self.is_changed = True
 
     def settle(self):
-        """Applies what is ready, and gives the held calls that can be answered now."""
-        before = None
-        while before != len(self.pending):
-            before = len(self.pending)
-            later = []
-            for item in self.pending:
-                if covers(self.applied, item.label):
-                    self.applied = join(self.applied, item.stamp)
-                else:
-                    later.append(item)
-            self.pending = later
+        """Applies what is ready, gives the held calls that can be answered now, and forgets what is of no use."""
+        waiting = [self.log[spot] for spot in sorted(self.log) if self.log[spot].is_update()]
+        waiting = [item for item in waiting if not covers(self.applied, item.stamp)]
+        while ready := next((item for item in waiting if covers(self.applied, item.label)), None):
+            waiting.remove(ready)
+            self.applied = join(self.applied, ready.stamp)
+            self.known.setdefault(ready.name, ready.stamp)
         answered = [call for call in self.held if covers(self.applied, call.label)]
         self.held = [call for call in self.held if not covers(self.applied, call.label)]
+        if self.is_changed:
+            self.prune()
         return answered
+
+    def prune(self):
+        """Updates that all have leave, then calls that are done, then acknowledgements that are of no use."""
+        floor = [min(parts) for parts in zip(*self.told)]
+        for item in [item for item in self.log.values() if item.is_update() and not item.is_new(floor)]:
+            self.leave(item)
+        updated = {item.name for item in self.log.values() if item.is_update()}
+        for ack in [item for item in self.log.values() if not item.is_update() and item.name not in updated]:
+            self.known.pop(ack.name, None)
+            if not ack.is_new(floor) and ack.time + DELTA < self.clock:
+                self.leave(ack)
+        self.is_changed = False
 
 
 class Script:
@@ -97,7 +155,9 @@ class Script:
         self.draws = random.Random(SEED)
         self.service = service
         self.lines = [f"lazyrep 1 {service} {replicas} {CLIENTS} {DELTA}"]
-        self.replicas = [Replica(replicas, index) for index in range(replicas)]
+        # Of each item that some replica logs, how many do.
+        self.logged = collections.Counter()
+        self.replicas = [Replica(replicas, index, self.logged) for index in range(replicas)]
         self.labels = [[0] * replicas for _ in range(CLIENTS)]
         self.counts = [0] * CLIENTS
         # For each client its open call, and what it does next: a message to deliver, mostly.
@@ -107,7 +167,6 @@ class Script:
         self.copies = []
         self.gossips = []
         self.sent = 0
-        self.updates = 0
         while len(self.lines) <= events:
             self.add_event()
 
@@ -139,18 +198,19 @@ class Script:
         return index
 
     def tick(self, replica):
-        replica.clock = len(self.lines)
+        replica.read_clock(len(self.lines))
         self.lines.append(f"tick {replica.index} {replica.clock}")
+        self.end_step(replica.index)
 
     def send_gossip(self):
         sender, receiver = self.draws.sample(range(len(self.replicas)), 2)
         self.lines.append(f"gossip {sender} {receiver}")
-        replica = self.replicas[sender]
-        self.gossips.append((self.message(), receiver, list(replica.received), list(replica.log)))
+        received, items = self.replicas[sender].gossip_for(receiver)
+        self.gossips.append((self.message(), sender, receiver, received, items))
 
-    def deliver_gossip(self, number, receiver, received, log):
+    def deliver_gossip(self, number, sender, receiver, received, items):
         self.lines.append(f"deliver {number}")
-        self.replicas[receiver].take(received, log)
+        self.replicas[receiver].take(sender, received, items)
         self.end_step(receiver)
 
     def end_step(self, index):
@@ -185,8 +245,7 @@ class Script:
     def call(self, client):
         index = self.some_replica(client)
         name = f"n{self.draws.randrange(COUNTERS)}"
-        adds = self.updates < UPDATES and self.draws.randrange(2) == 0
-        self.updates += adds
+        adds = len(self.logged) < BUSY and self.draws.randrange(2) == 0
         self.counts[client] += 1
         time = len(self.lines)
         call = Call(client, self.counts[client], adds, list(self.labels[client]), time)
@@ -214,9 +273,9 @@ class Script:
         """A copy that is late or acknowledged is refused, one that is known is replied to again."""
         if time + DELTA < replica.clock:
             assert self.open[call.client] is not call
-        elif call.name in replica.known:
-            self.reply(call, replica.known[call.name])
-        elif call.name not in replica.noted:
+        elif stamp := replica.taken_before(call.name):
+            self.reply(call, stamp)
+        elif not replica.is_noted(call.name):
             self.reply(call, replica.accept(call))
 
     def take_reply(self, client, number, stamp):
@@ -227,14 +286,13 @@ class Script:
 
     def acknowledge(self, client, call):
         index = self.some_replica(client)
-        self.lines.append(f"ack {client} {index} {len(self.lines)}")
-        self.next[client] = ("acknowledged", self.message(), index, call)
+        time = len(self.lines)
+        self.lines.append(f"ack {client} {index} {time}")
+        self.next[client] = ("acknowledged", self.message(), index, call, time)
 
-    def deliver_ack(self, client, number, index, call):
+    def deliver_ack(self, client, number, index, call, time):
         self.lines.append(f"deliver {number}")
-        replica = self.replicas[index]
-        if call.name not in replica.noted:
-            replica.receive(Item(replica.next_spot(), call.name))
+        self.replicas[index].note(call, time)
         self.end_step(index)
         self.next[client] = None
 

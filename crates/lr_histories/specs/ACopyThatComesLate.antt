@@ -33,9 +33,9 @@ history = record {
         view = 0;
         clock = 16;
         received = 0 ∷ 2 ∷ 0 ∷ [];
-        log = spot 1 1 ∷ [];
+        log = [];
         acks = spot 1 2 ∷ [];
-        calls = cid 0 1 ∷ [];
+        calls = [];
         held = [];
         marks = [];
       }) ∷ [])

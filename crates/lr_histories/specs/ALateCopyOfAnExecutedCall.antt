@@ -50,9 +50,9 @@ history = record {
     view = 0;
     clock = 0;
     received = 2 ∷ 0 ∷ 0 ∷ [];
-    log = spot 0 1 ∷ [];
+    log = [];
     acks = spot 0 2 ∷ [];
-    calls = cid 0 1 ∷ [];
+    calls = [];
     held = [];
     marks = [];
   });
@@ -61,9 +61,9 @@ history = record {
     view = 0;
     clock = 0;
     received = 2 ∷ 0 ∷ 0 ∷ [];
-    log = spot 0 1 ∷ [];
-    acks = spot 0 2 ∷ [];
-    calls = cid 0 2 ∷ [];
+    log = [];
+    acks = spot 0 3 ∷ [];
+    calls = [];
     held = [];
     marks = [];
   });

@@ -3,12 +3,15 @@ pub mod Terms
 pub mod ACallMadeAgainThroughAnotherReplica
 pub mod ACopyThatComesLate
 pub mod ALateCopyOfAnExecutedCall
+pub mod ALoneReplicaForgetsAnAcknowledgedCall
 pub mod AQueryDeliveredFourTimes
 pub mod AQueryIsSentAgain
 pub mod AQueryWaitsForGossip
 pub mod AQueryWaitsForTheAcceptanceThatItsLabelNames
 pub mod ASecondCallWhileOneIsOpen
 pub mod AWordSentAndRead
+pub mod AnAcknowledgementComesBeforeItsCall
+pub mod AnAcknowledgementIsNotedAgainAfterItLeft
 pub mod AnUpdateBeforeItsCause
 pub mod AnUpdateDeliveredTwice
 pub mod AnUpdateDeliveredTwiceAndASecondOpenCall
@@ -20,6 +23,7 @@ pub mod MessagesThatWereNeverSent
 pub mod NoCopyMayComeAfterItsTime
 pub mod NotesWithRepeats
 pub mod OneBoxAtTwoReplicas
+pub mod OneReplicaNeverTells
 pub mod SixtyFourClients
 pub mod TheLongestNameAndTheGreatestAmounts
 pub mod TimesAtBothEndsOf64Bits
