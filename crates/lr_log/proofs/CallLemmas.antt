@@ -18,7 +18,7 @@ use Rattle.lr_log.specs.ItemLaws.{each-map}
 use Rattle.lr_log.specs.Items.{NoneAt}
 use Rattle.lr_log.proofs.Entries.{entry-behind, entry-once, entry-one, entry-trans, same_spot-apart, same_spot-refl}
 use Rattle.lr_log.specs.Rows.{AreRows, insert_item, same_spot, together}
-use Rattle.lr_log.proofs.RowLemmas.{AreRows-emptied, AreRows-filter, filter-all, in_order-together, together-emptied}
+use Rattle.lr_log.proofs.RowLemmas.{AreRows-filter, filter-all, in_order-together}
 use Rattle.lr_log.proofs.RowLemmas.{together-filter}
 use Rattle.lr_log.proofs.Searches.{each-at}
 use Rattle.lr_base.specs.NameLaws.{before-apart}
@@ -221,15 +221,6 @@ module _ {A : Type 0} (spot_of : A → Spot) (cid_of : A → Cid) where
     indexed = kept_index ∙ ap (filter (λ e. test e.spot)) is.indexed
         ∙ index-filter spot_of cid_of test (together rows) (in_order-together spot_of 0 rows is.placed)
         ∙ ap (index_of spot_of cid_of) (sym (together-filter (λ x. test (spot_of x)) rows) ∙ ap together (sym kept));
-  }
-
-  -- and emptied
-  pub IsPlaced-emptied : (rows new : List (List A)) (new_index : List CallSpot) → new ≡ map (λ row. []) rows
-      → new_index ≡ []
-      → IsPlaced spot_of cid_of new new_index
-  IsPlaced-emptied rows new new_index emptied none = record {
-    placed = subst (AreRows spot_of 0) (sym emptied) (AreRows-emptied spot_of 0 rows);
-    indexed = none ∙ ap (index_of spot_of cid_of) (sym (ap together emptied ∙ together-emptied rows));
   }
 
   -- no entry is at the spot of no item

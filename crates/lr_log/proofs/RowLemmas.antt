@@ -215,16 +215,7 @@ module _ {A : Type 0} where
       back [] each = each
       back (x ∷ xs) each = back xs each.1
 
-  -- each row is emptied
-  pub together-emptied : (rows : List (List A)) → together {A = A} (map (λ (row : List A). []) rows) ≡ []
-  together-emptied [] = refl
-  together-emptied (row ∷ rows) = together-emptied rows
-
 module _ {A : Type 0} (spot_of : A → Spot) where
-  pub AreRows-emptied : (place : ℕ) (rows : List (List A)) → AreRows spot_of place (map (λ (row : List A). []) rows)
-  AreRows-emptied place [] = tt
-  AreRows-emptied place (row ∷ rows) = ((tt, tt), AreRows-emptied (suc place) rows)
-
   -- the row of an item has its items in order
   pub row-in_order : (rows : List (List A)) (k : ℕ) (row d : List A) → AreRows spot_of 0 rows → k < length rows
       → row ≡ get_or rows k d

@@ -103,13 +103,6 @@ impl CallIndex {
         self.entries.retain(|entry| is_new(floor, entry.spot));
     }
 
-    /// Drops all entries, and keeps their room.
-    pub fn clear(&mut self)
-        ensures { self.new ≡ [] }
-    {
-        self.entries.clear();
-    }
-
     /// The same entries.
     pub fn copy(&self, alloc: Global) -> Result<Self, NoMemory>
         ensures { IfOk result (λ copied. copied ≡ self.now) }

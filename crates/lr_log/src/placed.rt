@@ -161,14 +161,6 @@ impl<T: AtSpot> Placed<T> {
         self.index.drop_known(floor);
     }
 
-    /// Drops all items, and keeps their room.
-    pub fn clear(&mut self)
-        ensures { self.new ≡ [] }
-    {
-        clear_each(&mut self.rows);
-        self.index.clear();
-    }
-
     /// The items' spots, in their order.
     pub fn spots(&self) -> Result<Rows<Spot>, NoMemory>
         ensures { IfOk result (λ spots. spots ≡ map T.spot_of self.now) }
@@ -330,14 +322,6 @@ fn drop_known_of<T: AtSpot>(rows: &mut Vec<Row<T>>, floor: &Stamp)
 {
     for row in rows.iter_mut() {
         row.drop_known(floor);
-    }
-}
-
-fn clear_each<T: AtSpot>(rows: &mut Vec<Row<T>>)
-    ensures { rows.new.items ≡ map (λ row. []) rows.old.items }
-{
-    for row in rows.iter_mut() {
-        row.clear();
     }
 }
 

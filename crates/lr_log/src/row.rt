@@ -107,13 +107,6 @@ impl<T: AtSpot> Row<T> {
         !is_new(floor, items[0].spot())
     }
 
-    /// Drops all items, and keeps their room.
-    pub fn clear(&mut self)
-        ensures { self.new ≡ [] }
-    {
-        self.items.clear();
-    }
-
     /// What stands at a spot.
     pub fn at(&self, spot: Spot) -> Option<&T>
         requires { AreInOrder T.spot_of self.now }

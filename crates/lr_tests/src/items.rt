@@ -1,8 +1,7 @@
 //! Items of logs, stamps and tables, which tests are made of.
-ghost use Rattle.std.specs.Prelude.{◌<◌};
 
 use lr_base::lr_service::Service;
-use lr_base::{Cid, Config, LAST_NUMBER, LogUpdate, MOST_PARTS, Spot, Stamp};
+use lr_base::{Cid, Config, LAST_NUMBER, LogUpdate, MOST_PARTS, MOST_REPLICAS, Spot, Stamp};
 use lr_log::Table;
 use std::alloc::Global;
 use std::process::Abort;
@@ -39,15 +38,17 @@ pub fn update(alloc: Global, item: (u8, u64, u64)) -> Result<LogUpdate<TallyOp>,
 
 /// The first replica's table, of so many rows, where each replica told its row.
 pub fn table_of(rt: &impl Abort, rows: &[&[u64]]) -> Table {
+    assert!(rt; rows.len() <= MOST_REPLICAS as usize);
+    let replicas = rows.len() as u8;
     let config = Config {
-        replicas: rows.len() as u8,
+        replicas,
         clients: 1,
         delta: 0,
     };
     assert!(rt; config.is_valid());
     let mut table = Table::new(config, 0);
-    for (replica, row) in rows.iter().enumerate() {
-        tell(rt, &mut table, replica as u8, row);
+    for replica in 0..replicas {
+        tell(rt, &mut table, replica, rows[replica as usize]);
     }
     table
 }
