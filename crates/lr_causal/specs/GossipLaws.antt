@@ -1,16 +1,19 @@
 -- The order of what gossip tells, and gossip that tells nothing.
-use Rattle.std.proofs.Common.{◌≡◌, ◌≢◌, ℕ, zero, suc, true, List, [], ◌∷◌, length, None, Some, refl, subst, arith}
-use Rattle.std.specs.Prelude.{slice_get}
+use Rattle.std.proofs.Common.{◌≡◌, ◌≢◌, ℕ, zero, suc, true, false, List, [], ◌∷◌, length, None, Some, refl, subst, arith}
+use Rattle.std.specs.Prelude.{Bool, filter, slice_get}
 use Rattle.std.specs.List.{AllByRecursion}
 use Rattle.std.specs.Option.{ForSome}
 use Rattle.lr_base.specs.Ascending.{is_before}
+use Rattle.lr_base.specs.Logged.{IsLogged}
 use Rattle.lr_base.specs.Places.{AreInOrder}
+use Rattle.lr_base.specs.Rules.{is_new, new_acks, new_updates}
 use Rattle.lr_base.specs.declared.lr_service.Kind.{Kind}
+use Rattle.lr_base.specs.declared.messages.Gossip.{Gossip}
 use Rattle.lr_base.specs.declared.messages.LogAck.{LogAck}
 use Rattle.lr_base.specs.declared.messages.LogUpdate.{LogUpdate}
 use Rattle.lr_base.specs.declared.names.Spot.{Spot}
 use Rattle.lr_causal.specs.Causal.{EachBefore, IsGossip, StandInOrder}
-use Rattle.lr_log.specs.ItemLaws.{each-by_index}
+use Rattle.lr_log.specs.ItemLaws.{IsOrdered-new, each-by_index, each-filter}
 use Rattle.lr_log.specs.Items.{IsOrdered, Items, NoneAt, items_of}
 
 -- what holds of each element holds at each index
@@ -18,6 +21,11 @@ each-at : {A : Type 0} (P : A → Type 0) (xs : List A) → AllByRecursion P xs 
 each-at P [] all k = λ x e. let none : None ≡ Some x = e in cc
 each-at P (x ∷ xs) all zero = λ y e. let same : x ≡ y = cc in subst P same all.0
 each-at P (x ∷ xs) all (suc k) = each-at P xs all.1 k
+
+-- what holds at each index holds so too of the elements that pass a test
+filtered-at : {A : Type 0} (P : A → Type 0) (test : A → Bool) (xs : List A) → ((k : ℕ) → ForSome (slice_get xs k) P)
+    → (k : ℕ) → ForSome (slice_get (filter test xs) k) P
+filtered-at P test xs all = each-at P (filter test xs) (each-filter P test xs (each-by_index P xs all))
 
 module _ {A : Type 0} (spot_of : A → Spot) where
   -- items in the order of their spots, by index
@@ -78,3 +86,24 @@ IsGossip-empty kind_of parts rep_ts long = record {
   acks_received = λ k a e. cc;
   ordered = StandInOrder-of [] [] (record { in_order = tt; acks_in_order = tt; apart = tt });
 }
+
+-- gossip is gossip still without the items that its receiver has
+pub IsGossip-new : {Op : Type 0} (kind_of : Op → Kind) (parts : ℕ) (theirs : List ℕ) (gossip : Gossip Op)
+    → IsGossip kind_of parts gossip
+    → IsGossip kind_of parts (record gossip {
+      updates = new_updates theirs gossip.updates;
+      acks = new_acks theirs gossip.acks;
+    })
+IsGossip-new {Op} kind_of parts theirs gossip whole =
+    let new = λ (u : LogUpdate Op). is_new theirs u.spot in
+    let ack_new = λ (a : LogAck). is_new theirs a.spot in
+    let ordered = IsOrdered-of gossip.updates gossip.acks whole.ordered in
+    record {
+      rep_parts = whole.rep_parts;
+      logged = filtered-at (IsLogged kind_of parts) new gossip.updates whole.logged;
+      updates_received =
+          filtered-at (λ u. is_new gossip.rep_ts u.spot ≡ false) new gossip.updates whole.updates_received;
+      acks_received = filtered-at (λ a. is_new gossip.rep_ts a.spot ≡ false) ack_new gossip.acks whole.acks_received;
+      ordered = StandInOrder-of (new_updates theirs gossip.updates) (new_acks theirs gossip.acks)
+          (IsOrdered-new theirs (items_of gossip.updates gossip.acks) ordered);
+    }

@@ -1,12 +1,12 @@
 //! The calls of a log, with lists worked out by hand.
+use crate::items::{cid, stamp, table_of, update};
 use crate::taking::{add_ack, add_update, take};
-use lr_base::lr_service::Service;
-use lr_base::{Cid, LAST_NUMBER, LOG_ROOM, LogAck, LogUpdate, Places, Spot, Stamp};
+use lr_base::{LOG_ROOM, LogAck, Places, Spot};
 use lr_log::Log;
 use std::alloc::Global;
 use std::process::Abort;
 use std::test::Fail;
-use svc_tally::{Tally, TallyOp};
+use svc_tally::TallyOp;
 
 // Items by place and number, and the number of their client's call.
 const ITEMS: [(u8, u64, u64); 5] = [(1, 2, 7), (0, 9, 8), (1, 1, 9), (2, 1, 7), (0, 3, 7)];
@@ -14,23 +14,8 @@ const ITEMS: [(u8, u64, u64); 5] = [(1, 2, 7), (0, 9, 8), (1, 1, 9), (2, 1, 7), 
 // The same in the order of places and then numbers.
 const IN_ORDER: [(u8, u64, u64); 5] = [(0, 3, 7), (0, 9, 8), (1, 1, 9), (1, 2, 7), (2, 1, 7)];
 
-fn cid(seq: u64) -> Cid {
-    Cid { client: 0, seq }
-}
-
 // The number of an acknowledgement beside an update: no two items stand at one spot.
 const FURTHER: u64 = 100;
-
-// An update of three replicas that asks for nothing.
-fn update(alloc: Global, item: (u8, u64, u64)) -> Result<LogUpdate<TallyOp>, Fail> {
-    let (place, number, seq) = item;
-    Ok(LogUpdate {
-        spot: Spot { place, number },
-        cid: cid(seq),
-        prev: Stamp::zero(4),
-        op: Tally::read_op(alloc, b"add x 1")?,
-    })
-}
 
 // An acknowledgement of the same call, behind all updates of its place.
 fn ack(item: (u8, u64, u64)) -> LogAck {
@@ -76,7 +61,9 @@ fn items_stand_in_the_order_of_spots(rt: HostRuntime) -> Result<(), Fail> {
     check_items(&rt, &log, &IN_ORDER)?;
     check_items(&rt, &log.copy()?, &IN_ORDER)?;
     assert_eq!(rt; log.len(), 10);
-    log.clear_updates();
+    // All replicas have all of them.
+    let row = [9, 2, 1, 0];
+    log.retain_unknown(&table_of(&rt, &[&row, &row, &row]));
     assert_eq!(rt; log.update_spots()?.len(), 0);
     assert_eq!(rt; log.len(), 5);
     Ok(())
@@ -117,7 +104,7 @@ fn the_items_of_a_place_stand_together(rt: HostRuntime) -> Result<(), Fail> {
     let places: [(u8, &[u64]); 4] = [(0, &[3, 9]), (1, &[1, 2]), (2, &[1]), (3, &[])];
     for (place, numbers) in places {
         let updates = log.updates_of(place);
-        let acks = log.acks_of(place);
+        let acks = log.acks_of(place as usize);
         assert_eq!(rt; updates.len(), numbers.len(), "place {place}");
         assert_eq!(rt; acks.len(), numbers.len(), "place {place}");
         for ((update, known), number) in updates.iter().zip(acks).zip(numbers) {
@@ -135,14 +122,8 @@ fn the_items_of_a_place_stand_together(rt: HostRuntime) -> Result<(), Fail> {
 #[test]
 fn new_items_are_dropped(rt: HostRuntime) -> Result<(), Fail> {
     let mut log = log_of(&rt, rt.alloc(), &ITEMS)?;
-    let mut rep_ts = Stamp::zero(4);
     // Of each place so many were received: the updates (0, 3) and (1, 1) and no acknowledgement.
-    for (place, number) in [(0, 8), (1, 1)] {
-        assert!(rt; place < rep_ts.parts());
-        assert!(rt; number <= LAST_NUMBER);
-        rep_ts.set_part(place, number);
-    }
-    log.drop_new(&rep_ts);
+    log.drop_new(&stamp(&rt, &[8, 1, 0, 0]));
     assert_eq!(rt; log.len(), 2);
     assert!(rt;
         log.update_of(cid(7))

@@ -182,11 +182,11 @@ fn check_place(
     let updates = numbers(log.allocator(), items, place, false)?;
     let acks = numbers(log.allocator(), items, place, true)?;
     assert_eq!(rt; log.updates_of(place).len(), updates.len());
-    assert_eq!(rt; log.acks_of(place).len(), acks.len());
+    assert_eq!(rt; log.acks_of(place as usize).len(), acks.len());
     for (update, number) in log.updates_of(place).iter().zip(&updates) {
         assert_eq!(rt; update.spot.number, *number);
     }
-    for (ack, number) in log.acks_of(place).iter().zip(&acks) {
+    for (ack, number) in log.acks_of(place as usize).iter().zip(&acks) {
         assert_eq!(rt; ack.spot.number, *number);
     }
     Ok(())

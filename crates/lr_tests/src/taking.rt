@@ -28,7 +28,9 @@ fn ack_at<O: Drop>(log: &Log<O>, spot: Spot) -> Option<&LogAck>
     ensures { option_copied result
         ≡ find (λ a. same_spot a.spot spot) (items_at (λ a. a.spot) spot.place log.now.acks) }
 {
-    log.acks_of(spot.place).iter().find(|ack| ack.spot == spot)
+    log.acks_of(spot.place as usize)
+        .iter()
+        .find(|ack| ack.spot == spot)
 }
 
 /// Whether no item of the log stands at a spot.

@@ -4,8 +4,10 @@ ghost use Rattle.std.specs.Option.{option_copied};
 ghost use Rattle.lr_base.specs.Ascending.{same_cid};
 ghost use Rattle.lr_base.specs.Logged.{AllLogged, AllReceived, IsLogged};
 ghost use Rattle.lr_base.specs.Places.{AreInOrder, items_at};
+ghost use Rattle.lr_base.specs.Rules.{logs_update};
 ghost use Rattle.lr_tests.specs.Sample.{AreSample};
 
+use crate::items::stamp;
 use lr_base::lr_service::{Kind, Operation, Service};
 use lr_base::{Cid, Executed, Known, LAST_NUMBER, LogUpdate, NoMemory, Places, Spot, Stamp, Text};
 use lr_value::{Older, Value};
@@ -60,18 +62,6 @@ fn entry_of(entries: &[(Cid, Known)], cid: Cid) -> Option<&(Cid, Known)>
     entries.iter().find(|entry| cid == entry.0)
 }
 
-// A stamp of three replicas.
-fn stamp(rt: &impl Abort, parts: [u64; 4]) -> Stamp {
-    let mut stamp = Stamp::zero(4);
-    for place in 0..4 {
-        assert!(rt; place < stamp.parts());
-        let number = parts[place as usize];
-        assert!(rt; number <= LAST_NUMBER);
-        stamp.set_part(place, number);
-    }
-    stamp
-}
-
 // Updates of one of three replicas, in the order of their numbers, which are at most 1000.
 #[derive(Drop)]
 struct OfPlace {
@@ -109,6 +99,12 @@ impl OfPlace {
         ensures sample { AreSample self.now.0 1000 self.now.1 }
     {
         self.items.as_slice()
+    }
+
+    fn has(&self, cid: Cid) -> bool
+        ensures { result ≡ logs_update self.now.1 cid }
+    {
+        self.items.iter().any(|update| update.cid == cid)
     }
 
     fn push(&mut self, rt: &impl Abort, update: LogUpdate<TallyOp>) -> Result<(), NoMemory>
@@ -169,6 +165,10 @@ impl Places<TallyOp> for Updates {
             2 => two,
             _ => &[],
         }
+    }
+
+    fn has_update(&self, cid: Cid) -> bool {
+        self.zero.has(cid) || self.one.has(cid) || self.two.has(cid)
     }
 }
 
@@ -231,7 +231,7 @@ fn update(
     ensures { IfOk result (λ made. IsLogged ⟦<TallyOp as Operation>⟧.kind_of 4 made) }
 {
     let op = Tally::read_op(alloc, op.as_bytes())?;
-    let prev = stamp(rt, prev);
+    let prev = stamp(rt, &prev);
     let cid = Cid { client: 0, seq };
     assert!(rt; prev.parts() == 4);
     assert!(rt; spot.place < 4);
@@ -255,7 +255,7 @@ fn read_x(
     label: [u64; 4],
 ) -> Result<Option<Text>, Fail> {
     let op = Tally::read_op(alloc, b"read x")?;
-    let label = stamp(rt, label);
+    let label = stamp(rt, &label);
     assert!(rt; label.parts() == value.val_ts().parts());
     match Tally::kind(&op) {
         Kind::Query => Ok(value.read(&label, &op)?),
@@ -317,7 +317,7 @@ fn what_was_applied_stays_so(rt: HostRuntime) -> Result<(), Fail> {
     let updates = some_updates(&rt, rt.alloc())?;
     let mut calls = Calls::new(rt.alloc(), 1000);
     let start = Tally::start(rt.alloc())?;
-    let mut value = Value::from_parts(rt.alloc(), start, stamp(&rt, [1, 1, 0, 0]));
+    let mut value = Value::from_parts(rt.alloc(), start, stamp(&rt, &[1, 1, 0, 0]));
     assert!(rt; value.val_ts().parts() == 4);
     // Only the second call's other update waits, and the one that waits for ever.
     apply(&mut value, &updates, &mut calls)?;

@@ -1,8 +1,9 @@
 -- The held queries of a replica: those that are answered, and those that stay.
-use Rattle.std.proofs.Common.{◌≡◌, ◌+◌, ℕ, zero, suc, Bool, true, false, ◌==◌, if◌then◌else◌, List, [], ◌∷◌, ◌++◌, length, Option, Some, None, refl, sym, ap, ◌∙◌, subst, ◌<◌, take, get_or}
+use Rattle.std.proofs.Common.{◌≡◌, ◌+◌, ℕ, zero, suc, Bool, true, false, List, [], ◌∷◌, ◌++◌, length, Option, Some, None, refl, sym, ap, ◌∙◌, subst, ◌<◌, take, get_or}
 use Rattle.std.proofs.lemmas.List.{take_more}
 use Rattle.std.specs.Prelude.{filter}
 use Rattle.lr_base.specs.Meaning.{Meaning}
+use Rattle.lr_base.specs.Replicas.{ReplicaState}
 use Rattle.lr_base.specs.Rules.{CausalState, pruned}
 use Rattle.lr_base.specs.Stamps.{stamp_le}
 use Rattle.lr_base.specs.Steps.{ack_taken, answer_act, held_acts}
@@ -14,25 +15,15 @@ use Rattle.lr_base.specs.declared.names.Cid.{Cid}
 use Rattle.lr_base.specs.declared.names.Config.{Config}
 use Rattle.lr_causal.specs.Causal.{NoneApplied}
 use Rattle.lr_causal.specs.Savepoint.{IsPointOf, Saved}
-use Rattle.lr_world.proofs.Everywhere.{each-push}
+use Rattle.lr_world.proofs.Everywhere.{each-filter, each-push}
 use Rattle.lr_world.proofs.Outboxing.{after_acts-parts}
 use Rattle.lr_world.specs.Outboxes.{Outboxed, after_acts}
 use Rattle.lr_world.specs.Sound.{AllAsked, IsAsked}
 
 module _ {Op : Type 0} (kind_of : Op → Kind) (config : Config) where
-  -- queries with one more in front
-  AllAsked-front : (call : Call Op) (calls : List (Call Op)) → IsAsked kind_of config call → AllAsked kind_of config calls → AllAsked kind_of config (call ∷ calls)
-  AllAsked-front call calls own all zero = λ x e. let same : call ≡ x = cc in subst (λ (y : Call Op). IsAsked kind_of config y) same own
-  AllAsked-front call calls own all (suc k) = all k
-
-  -- those of them that pass a test
+  -- those queries that pass a test
   pub AllAsked-filter : (test : Call Op → Bool) (calls : List (Call Op)) → AllAsked kind_of config calls → AllAsked kind_of config (filter test calls)
-  AllAsked-filter test [] all = all
-  AllAsked-filter test (call ∷ calls) all = go (test call) refl (AllAsked-filter test calls (λ k. all (suc k)))
-    where
-      go : (passes : Bool) → test call ≡ passes → AllAsked kind_of config (filter test calls) → AllAsked kind_of config (filter test (call ∷ calls))
-      go true is later = rw is (AllAsked-front call (filter test calls) (all 0 call refl) later)
-      go false is later = rw is later
+  AllAsked-filter test calls all = each-filter calls test (IsAsked kind_of config) all
 
 -- the same queries under other names
 pub AllAsked-along : {Op : Type 0} (kind_of : Op → Kind) (config now : Config) (calls same : List (Call Op)) → now ≡ config → same ≡ calls → AllAsked kind_of config calls → AllAsked kind_of now same
@@ -59,21 +50,19 @@ AllAsked-push {Op} kind_of config now calls same call setting is all own = rw (s
 
 module _ {Value Op : Type 0} (kind_of : Op → Kind) (config now : Config) (state next : CausalState Value Op) where
   -- pruning leaves the held queries
-  pub AllAsked-pruned : (replicas : ℕ) → now ≡ config → next ≡ pruned replicas state → AllAsked kind_of config state.held → AllAsked kind_of now next.held
-  AllAsked-pruned replicas setting is all = AllAsked-along kind_of config now state.held next.held setting (ap (λ (s : CausalState Value Op). s.held) is ∙ go (replicas == 1)) all
-    where
-      go : (alone : Bool) → (if alone then record state { updates = [] } else state).held ≡ state.held
-      go true = refl
-      go false = refl
+  pub AllAsked-pruned : (delta : ℕ) → now ≡ config → next ≡ pruned delta state → AllAsked kind_of config state.held → AllAsked kind_of now next.held
+  AllAsked-pruned delta setting is all =
+      AllAsked-along kind_of config now state.held next.held setting (ap (λ (s : CausalState Value Op). s.held) is) all
 
-  -- a step back leaves the first of them
-  pub AllAsked-restored : (p : Saved Value) (before : CausalState Value Op) → now ≡ config → IsPointOf p state before → next ≡ before → AllAsked kind_of config state.held → AllAsked kind_of now next.held
-  AllAsked-restored p before setting point is all =
-      AllAsked-along kind_of config now (take p.held state.held) next.held setting (ap (λ (s : CausalState Value Op). s.held) (is ∙ sym point.restores)) (AllAsked-take kind_of config p.held state.held all)
+-- a step back leaves the first of them
+pub AllAsked-restored : {Value Op : Type 0} (kind_of : Op → Kind) (config now : Config) (it : ReplicaState Value Op) (next : CausalState Value Op) (p : Saved Value) (before : CausalState Value Op)
+    → now ≡ config → IsPointOf p it before → next ≡ before → AllAsked kind_of config it.causal.held → AllAsked kind_of now next.held
+AllAsked-restored {Value} {Op} kind_of config now it next p before setting point is all =
+    AllAsked-along kind_of config now (take p.held it.causal.held) next.held setting (ap (λ (s : CausalState Value Op). s.held) (is ∙ sym point.restores)) (AllAsked-take kind_of config p.held it.causal.held all)
 
 -- a savepoint of a state is one of the same state under another name
-pub IsPointOf-along : {Value Op : Type 0} (p : Saved Value) (state same before : CausalState Value Op) → state ≡ same → IsPointOf p same before → IsPointOf p state before
-IsPointOf-along {Value} {Op} p state same before is point = subst (λ (s : CausalState Value Op). IsPointOf p s before) (sym is) point
+pub IsPointOf-along : {Value Op : Type 0} (p : Saved Value) (it same : ReplicaState Value Op) (before : CausalState Value Op) → it ≡ same → IsPointOf p same before → IsPointOf p it before
+IsPointOf-along {Value} {Op} p it same before is point = subst (λ (r : ReplicaState Value Op). IsPointOf p r before) (sym is) point
 
 module _ {Value Op : Type 0} (m : Meaning Value Op) where
   -- where no label is applied, nothing is answered

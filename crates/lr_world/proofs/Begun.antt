@@ -99,21 +99,21 @@ made-front kind_of config client was now event out after (Err e) next own did er
 module _ {Value Op : Type 0} where
   -- a replica ends its step
   pub finished-run : (run : RunState Value Op) (me : ℕ) (r next : ReplicaState Value Op) → slice_get run.replicas me ≡ Some r
-      → next ≡ record r { causal = finished r.config.replicas r.causal } → record run { replicas = set run.replicas me next } ≡ replica_finished run me (slice_get run.replicas me)
+      → next ≡ record r { causal = finished r.config.delta r.causal } → record run { replicas = set run.replicas me next } ≡ replica_finished run me (slice_get run.replicas me)
   finished-run run me r next there is =
       ap (λ (n : ReplicaState Value Op). record run { replicas = set run.replicas me n }) is ∙ ap (replica_finished run me) (sym there)
 
   -- a replica is what it was
   pub undone-run : (pending : Pending Value Op) (me : ℕ) (point : Saved Value) (before now : RunState Value Op) (r next : ReplicaState Value Op) (posted : List (Posted Op))
       → pending.who ≡ AtReplica me point → CanTakeBack pending before now → slice_get now.replicas me ≡ Some r → IsSame r next
-      → ((was : CausalState Value Op) → IsPointOf point r.causal was → next.causal ≡ was) → posted ≡ take pending.sent now.posted
+      → ((was : CausalState Value Op) → IsPointOf point r was → next.causal ≡ was) → posted ≡ take pending.sent now.posted
       → record now { replicas = set now.replicas me next; posted = posted } ≡ before
   undone-run pending me point before now r next posted who back there same gives sent =
       let at : HasBegunAt me point before.replicas now.replicas = subst (λ (w : Acting Value Op). HaveBegun w before.replicas now.replicas) who back.changed.replicas in
       let within : me < length before.replicas = slice_get_within before.replicas me at.was at.at_place in
       let here : Some r ≡ Some at.is = sym there ∙ ap (λ (rs : List (ReplicaState Value Op)). slice_get rs me) at.replaced ∙ get-set before.replicas me at.is within in
       let own : r ≡ at.is = cc in
-      let undoes : IsPointOf point r.causal at.was.causal = subst (λ (x : ReplicaState Value Op). IsPointOf point x.causal at.was.causal) (sym own) at.undoes in
+      let undoes : IsPointOf point r at.was.causal = subst (λ (x : ReplicaState Value Op). IsPointOf point x at.was.causal) (sym own) at.undoes in
       let config : next.config ≡ at.was.config = same.setting ∙ ap (λ (x : ReplicaState Value Op). x.config) own ∙ at.same.setting in
       let me' : next.me ≡ at.was.me = same.number ∙ ap (λ (x : ReplicaState Value Op). x.me) own ∙ at.same.number in
       let is : next ≡ at.was = λ k. record { config = config k; me = me' k; causal = gives at.was.causal undoes k } in
@@ -124,13 +124,13 @@ module _ {Value Op : Type 0} where
 
   -- what a savepoint needs of the replica
   pub begun-point : (pending : Pending Value Op) (me : ℕ) (point : Saved Value) (before now : RunState Value Op) (r : ReplicaState Value Op)
-      → pending.who ≡ AtReplica me point → CanTakeBack pending before now → slice_get now.replicas me ≡ Some r → (was : CausalState Value Op) × IsPointOf point r.causal was
+      → pending.who ≡ AtReplica me point → CanTakeBack pending before now → slice_get now.replicas me ≡ Some r → (was : CausalState Value Op) × IsPointOf point r was
   begun-point pending me point before now r who back there =
       let at : HasBegunAt me point before.replicas now.replicas = subst (λ (w : Acting Value Op). HaveBegun w before.replicas now.replicas) who back.changed.replicas in
       let within : me < length before.replicas = slice_get_within before.replicas me at.was at.at_place in
       let here : Some r ≡ Some at.is = sym there ∙ ap (λ (rs : List (ReplicaState Value Op)). slice_get rs me) at.replaced ∙ get-set before.replicas me at.is within in
       let own : at.is ≡ r = cc in
-      (at.was.causal, subst (λ (x : ReplicaState Value Op). IsPointOf point x.causal at.was.causal) own at.undoes)
+      (at.was.causal, subst (λ (x : ReplicaState Value Op). IsPointOf point x at.was.causal) own at.undoes)
 
   -- what was sent leaves again
   sent-back : (who : Acting Value Op) (out : Outboxed Op) (before now : RunState Value Op) (lines : List Outcome) (pending : Pending Value Op) → HasSent who out before now lines pending → take pending.sent now.posted ≡ before.posted
@@ -183,11 +183,11 @@ module _ {Value Op : Type 0} where
       }
 
   -- a replica has begun a step: what it was, and what it is
-  pub has-begun : (run : RunState Value Op) (me : ℕ) (r next : ReplicaState Value Op) (point : Saved Value) → slice_get run.replicas me ≡ Some r → IsSame r next → IsPointOf point next.causal r.causal → HasBegunAt me point run.replicas (set run.replicas me next)
+  pub has-begun : (run : RunState Value Op) (me : ℕ) (r next : ReplicaState Value Op) (point : Saved Value) → slice_get run.replicas me ≡ Some r → IsSame r next → IsPointOf point next r.causal → HasBegunAt me point run.replicas (set run.replicas me next)
   has-begun run me r next point there same undoes = record { was = r; is = next; at_place = there; replaced = refl; same = same; undoes = undoes }
 
   pub replica-begun : (m : Meaning Value Op) (config : Config) (run now : RunState Value Op) (me : ℕ) (r next : ReplicaState Value Op) (task : Task Op) (point : Saved Value) (out after : Outboxed Op) (lines : List Outcome) (pending : Pending Value Op)
-      → slice_get run.replicas me ≡ Some r → out ≡ opened (Replica me) (length run.posted) → HasDone (begun m r task) next.causal out after → IsSame r next → IsPointOf point next.causal r.causal
+      → slice_get run.replicas me ≡ Some r → out ≡ opened (Replica me) (length run.posted) → HasDone (begun m r task) next.causal out after → IsSame r next → IsPointOf point next r.causal
       → me < config.replicas → HasSent (AtReplica me point) after (record run { replicas = set run.replicas me next }) now lines pending
       → HasBegun config (replica_ended run me r (end_of m r task)) run now lines pending
   replica-begun m config run now me r next task point out after lines pending there first did same undoes acting sent =
@@ -195,15 +195,15 @@ module _ {Value Op : Type 0} where
       let posts = posts-are (Replica me) (length run.posted) end.acts out after first did.acts_are in
       let lines' = ap (λ (o : Outboxed Op). o.lines) (did.acts_are ∙ ap (λ (o : Outboxed Op). after_acts o end.acts) first) ∙ opened-lines (Replica me) (length run.posted) end.acts in
       let within : me < length run.replicas = slice_get_within run.replicas me r there in
-      let ends : record next { causal = finished next.config.replicas next.causal } ≡ record r { causal = finished r.config.replicas end.state } =
-      λ k. record { config = same.setting k; me = same.number k; causal = finished (same.setting k).replicas (did.state_is k) } in
+      let ends : record next { causal = finished next.config.delta next.causal } ≡ record r { causal = finished r.config.delta end.state } =
+      λ k. record { config = same.setting k; me = same.number k; causal = finished (same.setting k).delta (did.state_is k) } in
       let mid : RunState Value Op = record run { replicas = set run.replicas me next; posted = run.posted ++ after.posts } in
       record {
         acting = subst (IsActing config) (sym sent.actor) acting;
         finishes =
             ap (λ (who : Acting Value Op). completed who now) sent.actor ∙ ap (completed (AtReplica me point)) sent.run
             ∙ ap (replica_finished mid me) (get-set run.replicas me next within)
-            ∙ ap (λ (rs : List (ReplicaState Value Op)). record mid { replicas = rs }) (set-set run.replicas me next (record next { causal = finished next.config.replicas next.causal }))
+            ∙ ap (λ (rs : List (ReplicaState Value Op)). record mid { replicas = rs }) (set-set run.replicas me next (record next { causal = finished next.config.delta next.causal }))
             ∙ (λ k. record run { replicas = set run.replicas me (ends k); posted = run.posted ++ posts k });
         printed = sent.printed ∙ lines';
         undoes = record {
@@ -228,10 +228,10 @@ module _ {Value Op : Type 0} where
   ordered-task m run me r (Take at) (ReadTask read) there within is = absurd is
   ordered-task m run me r (Read reading) (TakeTask from message) there within is = absurd is
   ordered-task m run me r (Read reading) (TellTask to) there within is = absurd is
-  ordered-task m run me r (Read reading) (ReadTask read) there within is = rw there (λ k. replica_ended run me r (clock_set m r.config.replicas (is k) r.causal))
+  ordered-task m run me r (Read reading) (ReadTask read) there within is = rw there (λ k. replica_ended run me r (clock_set m r.config.delta (is k) r.causal))
   ordered-task m run me r (Tell to) (TakeTask from message) there within is = absurd is
   ordered-task m run me r (Tell to) (ReadTask read) there within is = absurd is
-  ordered-task m run me r (Tell to) (TellTask told) there within is = rw there (λ k. replica_ended run me r (gossiped m r.config.replicas (is k) r.causal))
+  ordered-task m run me r (Tell to) (TellTask told) there within is = rw there (λ k. replica_ended run me r (gossiped m r.config.delta (is k) r.causal))
 
 -- the task of an order is one of the run
 pub task-of : {Op : Type 0} (kind_of : Op → Kind) (config : Config) (posted : List (Posted Op)) (order : Order) (task : Task Op) → AllPosted kind_of config posted → IsOrderOf config order

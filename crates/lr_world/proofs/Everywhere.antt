@@ -1,7 +1,7 @@
 -- Facts about every element of a list, by its index.
 use Rattle.std.proofs.Common.{◌≡◌, ℕ, zero, suc, List, [], ◌∷◌, ◌++◌, length, set, take, Some, None, refl, subst, sym, ◌<◌, get_or, ◌∙◌, Option, arith}
 use Rattle.std.proofs.lemmas.Option.{slice_get_past, slice_get_read}
-use Rattle.std.specs.Prelude.{slice_get}
+use Rattle.std.specs.Prelude.{Bool, true, false, filter, slice_get}
 use Rattle.std.specs.Option.{ForSome}
 
 module _ {X : Type 0} where
@@ -40,6 +40,20 @@ module _ {X : Type 0} where
   each-append [] ys P all more k = more k
   each-append (x ∷ xs) ys P all more zero = all 0
   each-append (x ∷ xs) ys P all more (suc k) = each-append xs ys P (λ n. all (suc n)) more k
+
+  -- one element comes before the others
+  each-front : (x : X) (xs : List X) (P : X → Type 0) → P x → ((k : ℕ) → ForSome (slice_get xs k) P) → (k : ℕ) → ForSome (slice_get (x ∷ xs) k) P
+  each-front x xs P own all zero = λ z e. let same : x ≡ z = cc in subst (λ (v : X). P v) same own
+  each-front x xs P own all (suc k) = all k
+
+  -- the elements that pass a test
+  pub each-filter : (xs : List X) (test : X → Bool) (P : X → Type 0) → ((k : ℕ) → ForSome (slice_get xs k) P) → (k : ℕ) → ForSome (slice_get (filter test xs) k) P
+  each-filter [] test P all = all
+  each-filter (x ∷ xs) test P all = go (test x) refl (each-filter xs test P (λ k. all (suc k)))
+    where
+      go : (passes : Bool) → test x ≡ passes → ((k : ℕ) → ForSome (slice_get (filter test xs) k) P) → (k : ℕ) → ForSome (slice_get (filter test (x ∷ xs)) k) P
+      go true is later = rw is (each-front x (filter test xs) P (all 0 x refl) later)
+      go false is later = rw is later
 
   -- an element that was read is one of them
   pub each-read : (xs : List X) (i : ℕ) (x : X) (P : ℕ → X → Type 0) → ((k : ℕ) → ForSome (slice_get xs k) (P k)) → (count : ℕ) → count ≡ length xs → i < count → x ≡ get_or xs i x → P i x

@@ -1,5 +1,5 @@
 -- What a replica sends may be delivered, as the rules have it.
-use Rattle.std.proofs.Common.{◌≡◌, ◌+◌, ◌<◌, ◌∙◌, ◌==◌, ℕ, suc, Bool, true, false, List, [], ◌∷◌, length, Option, None, Some, lt-ltb, ltb-true, refl, subst, sym, arith}
+use Rattle.std.proofs.Common.{◌≡◌, ◌+◌, ◌<◌, ◌∙◌, ◌==◌, ℕ, suc, Bool, true, false, List, [], ◌∷◌, length, Option, None, Some, lt-ltb, ltb-true, get_or, refl, subst, sym, arith}
 use Rattle.std.specs.Prelude.{find, nat_lt}
 use Rattle.std.specs.Option.{ForSome}
 use Rattle.lr_base.specs.Ascending.{same_cid}
@@ -28,10 +28,11 @@ use Rattle.lr_base.specs.declared.names.Spot.{Spot}
 use Rattle.lr_causal.specs.Causal.{AgainHasParts}
 use Rattle.lr_base.specs.Rules.{gossip_of}
 use Rattle.lr_causal.specs.Causal.{IsGossip}
+use Rattle.lr_causal.specs.GossipLaws.{IsGossip-new}
 use Rattle.lr_world.proofs.Shaped.{fitting-append, one-stamp}
 use Rattle.lr_world.specs.Parts.{IsTask, begun, own_of, settled}
 use Rattle.lr_world.specs.Shapes.{AllFitting, IsFitting, IsShaped}
-use Rattle.lr_world.specs.Sound.{AllAsked, IsSound}
+use Rattle.lr_world.specs.Sound.{AllAsked, IsSound, all_told}
 use Rattle.lr_world.specs.declared.task.Task.{Task}
 use Rattle.lr_world.specs.declared.task.Task.TheVariants.{Take, Read, Tell}
 
@@ -127,7 +128,7 @@ module _ {Value Op : Type 0} (kind_of : Op → Kind) (r : ReplicaState Value Op)
   fitting-ack cid time None true false = (tt, tt)
   fitting-ack cid time None true true = (tt, tt)
 
-  fitting-gossip : (from : ℕ) (gossip : Gossip Op) (own : Bool) → AllFitting kind_of config (gossip_given from state gossip own).acts
+  fitting-gossip : (from : ℕ) (gossip : Gossip Op) (own : Bool) → AllFitting kind_of config (gossip_given r.me from state gossip own).acts
   fitting-gossip from gossip true = tt
   fitting-gossip from gossip false = (tt, tt)
 
@@ -153,7 +154,7 @@ module _ {Value Op : Type 0} (kind_of : Op → Kind) (r : ReplicaState Value Op)
   fitting-own m (Tell to) fits = (
     record {
       to_known = lt-ltb to config.replicas fits;
-      shaped = record { client = refl; kind = refl; stamps = one-stamp kind_of config state.rep_ts sound.told.rep_parts; told = λ g e. let same : gossip_of state ≡ g = cc in subst (IsGossip kind_of parts) same sound.told };
+      shaped = record { client = refl; kind = refl; stamps = one-stamp kind_of config state.rep_ts sound.told.rep_parts; told = λ g e. let same : gossip_of to state ≡ g = cc in subst (IsGossip kind_of parts) same (IsGossip-new kind_of parts (get_or state.table to []) (all_told state) sound.told) };
     },
     tt,
   )

@@ -41,12 +41,13 @@ abbrev pub own_of : {Value Op : Type 0} → Meaning Value Op → ReplicaState Va
 own_of m r (Take from message) = own_taken m r.config r.me r.causal from message.now
 own_of m r (Read reading) =
     record { state = ticked reading r.causal; acts = Say (ClockAt (max r.causal.clock reading)) ∷ [] }
-own_of m r (Tell to) = record { state = r.causal; acts = Send (Replica to) (GossipMessage (gossip_of r.causal)) ∷ [] }
+own_of m r (Tell to) =
+    record { state = r.causal; acts = Send (Replica to) (GossipMessage (gossip_of to r.causal)) ∷ [] }
 
 -- what a task comes to, to the end of the step
 -- for example: `taken`; `gossiped`
 abbrev pub end_of : {Value Op : Type 0} → Meaning Value Op → ReplicaState Value Op → Task Op → Ending Value Op
-end_of m r task = let own = own_of m r task in ended m r.config.replicas own.state own.acts
+end_of m r task = let own = own_of m r task in ended m r.config.delta own.state own.acts
 
 -- what comes to a front end by a task
 -- for example: `call 0 0 5 add x 3`
@@ -86,7 +87,7 @@ begun m r task =
 -- a step's end that can't fail: answered queries are held no more, and what is known everywhere leaves
 -- for example: a lone replica's log is empty
 abbrev pub finished : {Value Op : Type 0} → ℕ → CausalState Value Op → CausalState Value Op
-finished replicas state = pruned replicas (still_held state)
+finished delta state = pruned delta (still_held state)
 
 -- a task of this run: its message has its shape and a sender that there is, it reads the clock, or it tells a replica
 -- that there is

@@ -36,7 +36,7 @@ abbrev pub replica_finished : {Value Op : Type 0} → RunState Value Op → ℕ 
     → RunState Value Op
 replica_finished run me None = run
 replica_finished run me (Some r) = record run {
-  replicas = set run.replicas me (record r { causal = finished r.config.replicas r.causal });
+  replicas = set run.replicas me (record r { causal = finished r.config.delta r.causal });
 }
 
 -- the run once the step is finished: a front end has nothing left to do
@@ -72,7 +72,7 @@ pub record HasBegunAt {Value Op : Type 0} (me : ℕ) (point : Saved Value)
   pub at_place : slice_get before me ≡ Some was
   pub replaced : now ≡ set before me is
   pub same : IsSame was is
-  pub undoes : IsPointOf point is.causal was.causal
+  pub undoes : IsPointOf point is was.causal
 
 -- the replicas are those of before, but for one that has begun a step
 -- for example: those of before, while a front end acts

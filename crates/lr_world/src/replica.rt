@@ -80,7 +80,7 @@ impl<S: Service> Replica<S> {
             IfOk result (λ point. HasDone end self.new.causal out.old out.new) }
         // what stays, and can be undone
         ensures same { IsSame self.old self.new }
-        ensures point { IfOk result (λ point. IsPointOf point self.new.causal self.old.causal) }
+        ensures point { IfOk result (λ point. IsPointOf point self.new self.old.causal) }
         ensures err { OnErr result (self.new ≡ self.old) }
     {
         let mut point = self.save(&task);
@@ -93,8 +93,8 @@ impl<S: Service> Replica<S> {
 
     /// Ends a step: answered queries are held no more, and what is known everywhere leaves. It takes no memory.
     pub fn finish(&mut self, point: Savepoint<S>)
-        requires { (before : CausalState S S.Op) × IsPointOf point self.old.causal before }
-        ensures { self.new ≡ record self.old { causal = finished self.old.config.replicas self.old.causal } }
+        requires { (before : CausalState S S.Op) × IsPointOf point self.old before }
+        ensures { self.new ≡ record self.old { causal = finished self.old.config.delta self.old.causal } }
     {
         self.causal.close(point);
         self.causal.drop_answered();
@@ -103,9 +103,9 @@ impl<S: Service> Replica<S> {
 
     /// Takes a step back that isn't finished. It takes no memory.
     pub fn undo(&mut self, point: Savepoint<S>)
-        requires { (before : CausalState S S.Op) × IsPointOf point self.old.causal before }
+        requires { (before : CausalState S S.Op) × IsPointOf point self.old before }
         ensures same { IsSame self.old self.new }
-        ensures state { (before : CausalState S S.Op) → IsPointOf point self.old.causal before
+        ensures state { (before : CausalState S S.Op) → IsPointOf point self.old before
             → self.new.causal ≡ before }
     {
         self.causal.restore(point);
@@ -114,7 +114,7 @@ impl<S: Service> Replica<S> {
     // What is needed to undo a task.
     fn save(&self, task: &Task<'_, S::Op>) -> Savepoint<S>
         requires { IsTask S.Op.kind_of self.now.config task.now }
-        ensures point { IsPointOf result self.now.causal self.now.causal }
+        ensures point { IsPointOf result self.now self.now.causal }
         ensures heard { result.heard ≡ heard_in self.now.me task.now }
     {
         match task {
@@ -138,7 +138,7 @@ impl<S: Service> Replica<S> {
         ensures did { OnOk result (HasDone (begun S.meaning self.old task.entry) self.new.causal out.old out.new) }
         ensures same { IsSame self.old self.new }
         ensures point { (before : CausalState S S.Op) → point.old.heard ≡ heard_in self.old.me task.entry
-            → IsPointOf point.old self.old.causal before → IsPointOf point.new self.new.causal before }
+            → IsPointOf point.old self.old before → IsPointOf point.new self.new before }
     {
         self.act(task, out)?;
         self.settle(point, out)
@@ -211,7 +211,7 @@ impl<S: Service> Replica<S> {
     ) -> Result<(), NoMemory>
         requires from { from < self.old.config.replicas }
         requires gossip { IsGossip S.Op.kind_of (self.old.config.replicas + 1) gossip.now }
-        ensures did { let it = self.old in let end = gossip_given from it.causal gossip.now (from == it.me) in
+        ensures did { let it = self.old in let end = gossip_given it.me from it.causal gossip.now (from == it.me) in
             OnOk result (HasDone end self.new.causal out.old out.new) }
         ensures undo { CanUndo from self.old self.new }
     {
@@ -294,10 +294,11 @@ impl<S: Service> Replica<S> {
 
     // Gossip is sent.
     fn tell(&self, to: u8, out: &mut Outbox<S::Op>) -> Result<(), NoMemory>
-        ensures { let gossip = Message.Gossip (gossip_of self.now.causal) in
+        requires { to < self.now.config.replicas }
+        ensures { let gossip = Message.Gossip (gossip_of to self.now.causal) in
             OnOk result (out.new ≡ after_acts out.old (Act.Send (Actor.Replica to) gossip ∷ [])) }
     {
-        let gossip = self.causal.make_gossip()?;
+        let gossip = self.causal.make_gossip(to)?;
         out.send(Actor::Replica(to), Message::Gossip { gossip })
     }
 
@@ -306,8 +307,8 @@ impl<S: Service> Replica<S> {
     fn settle(&mut self, point: &mut Savepoint<S>, out: &mut Outbox<S::Op>) -> Result<(), NoMemory>
         ensures did { OnOk result (HasDone (settled S.meaning self.old.causal) self.new.causal out.old out.new) }
         ensures same { IsSame self.old self.new }
-        ensures point { (before : CausalState S S.Op) → IsPointOf point.old self.old.causal before
-            → IsPointOf point.new self.new.causal before }
+        ensures point { (before : CausalState S S.Op) → IsPointOf point.old self.old before
+            → IsPointOf point.new self.new before }
     {
         self.causal.apply(point)?;
         self.answer_held(out)

@@ -2,7 +2,7 @@ use Rattle.std.proofs.Common.{◌∙◌, ap, not}
 use Rattle.std.specs.Prelude.{filter}
 use Rattle.lr_base.specs.Stamps.{stamp_le}
 use Rattle.lr_base.specs.declared.messages.Call.{Call}
-use Rattle.lr_causal.specs.State.{config_of, state_of}
+use Rattle.lr_causal.specs.State.{config_of, replica_of, state_of}
 use Rattle.lr_world.proofs.Answering.{AllAsked-along, AllAsked-filter, AllAsked-pruned, IsPointOf-along}
 use Rattle.lr_world.specs.Sound.{AllAsked}
 use Rattle.lr_world.proofs.replica.Replica.finish.Goals as goal
@@ -11,8 +11,7 @@ pub close-requires : goal.close-requires
 close-requires g c =
     let before = c.requires.0 in (
       before,
-      IsPointOf-along c.args.point (state_of c.self.inside.causal) c.args.self.now.causal before
-          (ap (λ r. r.causal) c.self.view_is) c.requires.1,
+      IsPointOf-along c.args.point (replica_of c.self.inside.causal) c.args.self.now before c.self.view_is c.requires.1,
     )
 
 pub invariant_of-self : goal.invariant_of-self
@@ -28,4 +27,4 @@ invariant_of-self g c =
     ∙ ap (λ s. filter (λ (call : Call _). not (stamp_le call.prev s.val_ts)) s.held) c.close.ensures.state)
     (AllAsked-filter g.S.Op.Operation.kind_of (config_of it) waits (state_of it).held c.self.invariant) in
     AllAsked-pruned g.S.Op.Operation.kind_of (config_of next) (config_of after) (state_of next) (state_of after)
-    (config_of next).replicas c.prune.ensures.same.setting c.prune.ensures.state held
+    (config_of next).delta c.prune.ensures.same.setting c.prune.ensures.state held

@@ -1,5 +1,5 @@
 use Rattle.std.proofs.Common.{ap}
-use Rattle.lr_causal.specs.State.{config_of, state_of}
+use Rattle.lr_causal.specs.State.{config_of, replica_of, state_of}
 use Rattle.lr_world.proofs.Answering.{AllAsked-along, IsPointOf-along}
 use Rattle.lr_world.proofs.replica.Replica.settle.Goals as goal
 
@@ -19,4 +19,4 @@ invariant_of-self-2 g c =
 
 pub returns-clause-point : goal.returns-clause-point
 returns-clause-point g c before is =
-    c.apply.ensures.point before (IsPointOf-along c.args.point.now (state_of c.self.inside.causal) c.args.self.now.causal before (ap (λ r. r.causal) c.self.view_is) is)
+    c.apply.ensures.point before (IsPointOf-along c.args.point.now (replica_of c.self.inside.causal) c.args.self.now before c.self.view_is is)

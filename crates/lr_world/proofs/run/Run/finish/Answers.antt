@@ -16,7 +16,7 @@ finish-requires g c =
     let base =
     begun-point c.args.pending me c.in-AtReplica.point c.requires.begun.0 (run_of it) r c.in-AtReplica.is
     c.requires.begun.1 there in
-    (base.0, subst (λ p. IsPointOf p r.causal base.0) (search rules) base.1)
+    (base.0, subst (λ p. IsPointOf p r base.0) (search rules) base.1)
 
 pub invariant_of-self-clause-all_replicas : goal.invariant_of-self-clause-all_replicas
 invariant_of-self-clause-all_replicas g c =

@@ -52,7 +52,7 @@ undo-requires g c =
     let base =
     begun-point c.args.pending me c.in-AtReplica.point c.requires.begun.0 (run_of it) r c.in-AtReplica.is
     c.requires.begun.1 there in
-    (base.0, subst (λ p. IsPointOf p r.causal base.0) (search rules) base.1)
+    (base.0, subst (λ p. IsPointOf p r base.0) (search rules) base.1)
 
 pub invariant_of-self-in-AtReplica-clause-all_replicas : goal.invariant_of-self-in-AtReplica-clause-all_replicas
 invariant_of-self-in-AtReplica-clause-all_replicas g c =
@@ -84,4 +84,4 @@ returns-in-AtReplica-clause-run g c before back =
     let acting = subst (IsActing it.config) c.in-AtReplica.is c.requires.acting in
     undone-run c.args.pending me c.in-AtReplica.point before (run_of it) r c.undo.new.self c.truncate.new.self.items
     c.in-AtReplica.is back (replica-read it me r acting c.index_mut-in-AtReplica.ensures.value).1 c.undo.ensures.same
-    (λ was is. c.undo.ensures.state was (subst (λ p. IsPointOf p r.causal was) (search rules) is)) c.truncate.ensures.items
+    (λ was is. c.undo.ensures.state was (subst (λ p. IsPointOf p r was) (search rules) is)) c.truncate.ensures.items
