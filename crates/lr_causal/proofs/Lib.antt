@@ -6,5 +6,7 @@ mod LabelLemmas
 mod Points
 mod Received
 mod Remembering
+mod Resting
+mod Retold
 mod StampRows
 mod Waiting

@@ -70,8 +70,15 @@ module _ {Value Op : Type 0} where
       → heard < length it.causal.table → length (get_or it.causal.table heard []) ≡ length it.causal.rep_ts
       → AllReceived it.causal.rep_ts it.causal.updates → AllAcksReceived it.causal.rep_ts it.causal.acks
       → IsPointOf (record {
-        me = it.me; clock = it.causal.clock; rep_ts = rep_ts; top = it.causal.top; heard = heard; row = row;
-        entered = entered; held = held; applied = None;
+        me = it.me;
+        clock = it.causal.clock;
+        rep_ts = rep_ts;
+        top = it.causal.top;
+        heard = heard;
+        row = row;
+        entered = entered;
+        held = held;
+        applied = None;
       }) it it.causal
   point-saved rep_ts row heard held entered it stamps own none waiting own_row within parts received acks_received =
       let state = it.causal in

@@ -1,5 +1,5 @@
 -- Facts that a causal replica keeps.
-use Rattle.std.specs.Prelude.{◌≡◌, ◌≢◌, ◌<◌, ℕ, true, false, length, List, Option}
+use Rattle.std.specs.Prelude.{◌≡◌, ◌≢◌, ◌<◌, ℕ, true, false, filter, length, not, List, Option}
 use Rattle.std.specs.Option.{ForSome}
 use Rattle.lr_base.specs.Ascending.{is_before}
 use Rattle.lr_base.specs.declared.messages.Call.{Call}
@@ -8,12 +8,15 @@ use Rattle.lr_base.specs.declared.messages.Fresh.TheVariants.{Again}
 use Rattle.lr_base.specs.declared.messages.Gossip.{Gossip}
 use Rattle.lr_base.specs.declared.messages.LogUpdate.{LogUpdate}
 use Rattle.lr_base.specs.declared.lr_service.Kind.{Kind}
+use Rattle.lr_base.specs.declared.messages.Known.{Known}
+use Rattle.lr_base.specs.declared.names.Cid.{Cid}
 use Rattle.lr_base.specs.declared.names.Spot.{Spot}
 use Rattle.lr_base.specs.Kinds.{IsUpdate}
 use Rattle.lr_base.specs.Logged.{AllAcksReceived, AllLogged, AllReceived}
-use Rattle.lr_base.specs.Rules.{stamp_of}
+use Rattle.lr_base.specs.Rules.{is_spent, stamp_of, undone_calls, unknown_updates}
 use Rattle.lr_base.specs.Stamps.{stamp_le}
 use Rattle.lr_base.specs.declared.messages.LogAck.{LogAck}
+use Rattle.lr_log.specs.Items.{Items}
 use Rattle.lr_value.specs.Applied.{Memory}
 use Rattle.std.specs.List.{slice_get}
 
@@ -71,3 +74,11 @@ NoneApplied val_ts calls = (k : ℕ) → ForSome (slice_get calls k) (λ call. s
 -- what a value remembers of a log was received
 abbrev pub HasSeen : List ℕ → Option Memory → Type 0
 HasSeen rep_ts memory = ForSome memory (λ it. stamp_le it.seen rep_ts ≡ true)
+
+-- pruning drops none of these items and calls
+-- for example: the update `0:2`, where the rows are `[1, 0, 0]` and `[2, 0, 0]`
+pub record IsAtRest {Op : Type 0} (delta clock : ℕ) (rows : List (List ℕ)) (log : Items Op) (calls : List (Cid × Known))
+    : Type 0 where
+  pub updates : unknown_updates rows log.updates ≡ log.updates
+  pub calls_stay : undone_calls log.updates log.acks calls ≡ calls
+  pub acks : filter (λ ack. not (is_spent delta clock rows log.updates ack)) log.acks ≡ log.acks

@@ -1,5 +1,6 @@
 pub mod Causal
 pub mod GossipLaws
+pub mod Parts
 pub mod Savepoint
 pub mod State
 pub mod Acks

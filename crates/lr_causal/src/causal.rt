@@ -1,21 +1,22 @@
 //! The causal part of a replica.
-ghost use Rattle.std.specs.Prelude.{◌≡◌, ◌+◌, ◌<◌, length, IfOk, IsTrue};
+ghost use Rattle.std.specs.Prelude.{◌≡◌, ◌+◌, ◌<◌, length, IsTrue};
 ghost use Rattle.lr_base.specs.Config.{IsValid};
 ghost use Rattle.lr_base.specs.Logged.{AllAcksReceived, AllKnown, AllLogged, AllReceived};
-ghost use Rattle.lr_causal.specs.Causal.{HasSeen, NoneApplied};
+ghost use Rattle.lr_causal.specs.Causal.{HasSeen, IsAtRest, NoneApplied};
 ghost use Rattle.lr_value.specs.Remembered.{Remembers};
 
-use crate::gossip::{new_acks, new_updates};
 use crate::labels::{is_applied, none_applied};
 use lr_base::lr_service::{Operation, Service};
-use lr_base::{Call, Cid, Config, Fresh, Gossip, Known, LogUpdate, NoMemory, Spot, Stamp, Text};
+use lr_base::{Call, Cid, Config, Fresh, Known, LogUpdate, NoMemory, Spot, Stamp, Text};
 use lr_calls::{CallTable, late};
 use lr_log::{Log, Table};
 use lr_value::Value;
 use std::alloc::Global;
 
+mod making;
 mod noting;
 mod stepping;
+mod telling;
 
 pub use noting::AckEnd;
 
@@ -37,6 +38,8 @@ pub struct Causal<S: Service> {
     held: Vec<Call<S::Op>>,
     // Whether each of them is known to wait still.
     all_wait: bool,
+    // Whether it is known that pruning drops nothing.
+    at_rest: bool,
     ghost valid: { IsValid config },
     ghost own_place: { me < config.replicas },
     ghost own_table: { table.me ≡ me },
@@ -52,49 +55,21 @@ pub struct Causal<S: Service> {
     ghost remembers: { Remembers value log.updates },
     ghost seen: { HasSeen table.own value.memory },
     ghost waits: { IsTrue all_wait → NoneApplied value.val_ts held.items },
+    ghost rests: { IsTrue at_rest → IsAtRest config.delta clock table.rows log calls },
 }
 
 impl<S: Service> Causal<S> {
     ghost use Rattle.std.specs.Prelude.{◌≡◌, ◌+◌, ◌<◌, ◌↔◌, ℕ, find, length, IfSome, IfOk, IsTrue, OnOk, OnErr};
-    ghost use Rattle.lr_causal.specs.Causal.{AgainHasParts, IsAnswerOf, IsGossip, IsUpdateCall, NoneApplied};
+    ghost use Rattle.lr_causal.specs.Causal.{AgainHasParts, IsAnswerOf, IsUpdateCall, NoneApplied};
     ghost use Rattle.lr_causal.specs.Savepoint.{CanUndo, IsSame};
     ghost use Rattle.lr_base.specs.Ascending.{same_cid};
-    ghost use Rattle.lr_base.specs.Config.{IsValid};
-    ghost use Rattle.lr_base.specs.Kinds.{IsQuery, IsUpdate};
-    ghost use Rattle.lr_base.specs.Rules.{accepted, answer_of, first_state, fresh_of, gossip_of};
-    ghost use Rattle.lr_base.specs.Rules.{gossip_taken, held_more, known_of, new_count, taken_before};
+    ghost use Rattle.lr_base.specs.Kinds.{IsQuery};
+    ghost use Rattle.lr_base.specs.Rules.{accepted, answer_of, fresh_of, held_more, known_of, taken_before};
     ghost use Rattle.lr_base.specs.Rules.{update_of_call};
     ghost use Rattle.lr_base.specs.Limits.{last_number};
     ghost use Rattle.lr_base.specs.Stamps.{part};
     ghost use Rattle.lr_base.specs.Steps.{still_held};
     ghost use Rattle.lr_causal.specs.State.{config_of, me_of, replica_of, state_of};
-
-    /// A replica at which nothing has happened.
-    pub fn new(alloc: Global, config: Config, me: u8) -> Result<Self, NoMemory>
-        requires valid { IsValid config }
-        requires own_place { me < config.replicas }
-        ensures state { let first = first_state S.meaning config.replicas (config.replicas + 1) in
-            IfOk result (λ made. state_of made ≡ first) }
-        ensures config { IfOk result (λ made. config_of made ≡ config) }
-        ensures me { IfOk result (λ made. me_of made ≡ me) }
-    {
-        let parts = config.replicas + 1;
-        let value = Value::new(alloc, parts)?;
-        Ok(Causal {
-            config,
-            me,
-            clock: 0,
-            log: Log::new(alloc),
-            value,
-            calls: CallTable::new(alloc),
-            table: Table::new(config, me),
-            order_ts: Stamp::zero(parts),
-            imm_ts: Stamp::zero(parts),
-            top: 0,
-            held: Vec::new(alloc),
-            all_wait: true,
-        })
-    }
 
     /// What makes room for what it keeps.
     pub fn allocator(&self) -> Global {
@@ -196,32 +171,6 @@ impl<S: Service> Causal<S> {
         self.top
     }
 
-    /// A replica equal to this one.
-    pub fn copy(&self) -> Result<Self, NoMemory>
-        ensures state { IfOk result (λ copied. state_of copied ≡ state_of self.now) }
-        ensures config { IfOk result (λ copied. config_of copied ≡ config_of self.now) }
-        ensures me { IfOk result (λ copied. me_of copied ≡ me_of self.now) }
-    {
-        let log = self.log.copy()?;
-        let value = self.value.copy()?;
-        let calls = self.calls.copy()?;
-        let held = copy_held(self.held.as_slice(), self.log.allocator())?;
-        Ok(Causal {
-            config: self.config,
-            me: self.me,
-            clock: self.clock,
-            log,
-            value,
-            calls,
-            table: self.table.copy(),
-            order_ts: self.order_ts.copy(),
-            imm_ts: self.imm_ts.copy(),
-            top: self.top,
-            held,
-            all_wait: self.all_wait,
-        })
-    }
-
     /// Whether an update with this call and time is new here, and if not, why.
     pub fn fresh(&self, cid: Cid, time: u64) -> Fresh
         ensures parts { AgainHasParts ((config_of self.now).replicas + 1) result }
@@ -294,50 +243,8 @@ impl<S: Service> Causal<S> {
         own.set_part(self.me, number);
         self.table.put_own(own);
         self.top = number;
+        self.at_rest = false;
         Ok((spot, stamp))
-    }
-
-    /// What it tells another replica: how many items it received of each place, and of its log what is new for that one,
-    /// by what it was told.
-    pub fn make_gossip(&self, to: u8) -> Result<Gossip<S::Op>, NoMemory>
-        requires { to < (config_of self.now).replicas }
-        ensures gossip { IfOk result (λ made. made ≡ gossip_of to (state_of self.now)) }
-        ensures shape { IfOk result (λ made. IsGossip S.Op.kind_of ((config_of self.now).replicas + 1) made) }
-    {
-        self.log.keeps();
-        let theirs = self.table.row(to);
-        let updates = self.log.copy_new_updates(theirs)?;
-        let acks = self.log.copy_new_acks(theirs)?;
-        Ok(Gossip {
-            rep_ts: self.table.own().copy(),
-            updates,
-            acks,
-        })
-    }
-
-    /// Takes gossip of another replica: what is new is logged, and its stamp is joined to what was received here and to
-    /// what its sender told. It answers how many items were new.
-    pub fn take_gossip(&mut self, from: u8, gossip: &Gossip<S::Op>) -> Result<u64, NoMemory>
-        requires from { from < (config_of self.old).replicas }
-        requires gossip { IsGossip S.Op.kind_of ((config_of self.old).replicas + 1) gossip.now }
-        // what is taken
-        ensures count { IfOk result (λ count. count ≡ new_count (state_of self.old) gossip.now) }
-        ensures ok { OnOk result (state_of self.new ≡ gossip_taken (me_of self.old) from (state_of self.old) gossip.now) }
-        // what stays, and can be undone
-        ensures err { OnErr result (state_of self.new ≡ state_of self.old) }
-        ensures undo { CanUndo from (replica_of self.old) (replica_of self.new) }
-    {
-        let alloc = self.log.allocator();
-        let mut own = self.table.own().copy();
-        let updates = new_updates(alloc, gossip.updates.as_slice(), &own)?;
-        let acks = new_acks(alloc, gossip.acks.as_slice(), &own)?;
-        let Ok(()) = self.log.add_all(updates.as_slice(), acks.as_slice()) else {
-            return Err(NoMemory);
-        };
-        own.join(&gossip.rep_ts);
-        self.table.merge(from, &gossip.rep_ts);
-        self.table.put_own(own);
-        Ok(updates.len() as u64 + acks.len() as u64)
     }
 
     /// What a query with this label is answered, or nothing while something of its label isn't applied.
@@ -382,14 +289,4 @@ impl<S: Service> Causal<S> {
         self.held.retain(|call| !is_applied(&call.prev, val_ts));
         self.all_wait = true;
     }
-}
-
-fn copy_held<O: Operation>(held: &[Call<O>], alloc: Global) -> Result<Vec<Call<O>>, NoMemory>
-    ensures { IfOk result (λ copied. copied.items ≡ held.now) }
-{
-    let mut copied = Vec::new(alloc);
-    for call in held {
-        copied.push(call.copy()?)?;
-    }
-    Ok(copied)
 }

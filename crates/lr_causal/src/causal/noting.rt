@@ -57,6 +57,7 @@ impl<S: Service> Causal<S> {
         };
         own.set_part(self.me, spot.number);
         self.table.put_own(own);
+        self.at_rest = false;
         Ok(AckEnd::Noted(spot))
     }
 
@@ -66,7 +67,10 @@ impl<S: Service> Causal<S> {
         ensures state { state_of self.new ≡ ticked reading (state_of self.old) }
         ensures undo { (row : ℕ) → CanUndo row (replica_of self.old) (replica_of self.new) }
     {
-        self.clock = self.clock.max(reading);
+        if self.clock < reading {
+            self.clock = reading;
+            self.at_rest = false;
+        }
         self.clock
     }
 }

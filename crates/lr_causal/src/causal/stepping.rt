@@ -70,6 +70,7 @@ impl<S: Service> Causal<S> {
         };
         if let Some(older) = older {
             self.all_wait = false;
+            self.at_rest = false;
             point.keep(older);
         }
         Ok(())
@@ -89,14 +90,20 @@ impl<S: Service> Causal<S> {
     }
 
     /// Drops what is of no use any more: updates that each replica has, then calls that are done, then acknowledgements
-    /// that each replica has and that are late. It takes no memory, and no savepoint undoes it.
+    /// that each replica has and that are late. It takes no memory, and no savepoint undoes it. Where nothing was logged,
+    /// received, applied or heard, nor the clock read, since the last time, it looks at no item.
     pub fn prune(&mut self)
         ensures state { state_of self.new ≡ pruned (config_of self.old).delta (state_of self.old) }
         ensures same { IsSame (replica_of self.old) (replica_of self.new) }
     {
+        if self.at_rest {
+            return;
+        }
         self.log.retain_unknown(&self.table);
         forget_done(&mut self.calls, &self.log);
-        self.log.drop_acks(&self.table, self.clock, self.config.delta);
+        self.log
+            .drop_acks(&self.table, self.clock, self.config.delta);
+        self.at_rest = true;
     }
 
     /// Gives back the state in which the savepoint was made, where only `accept`, `ack`, `tick`, `take_gossip` of the
@@ -114,6 +121,7 @@ impl<S: Service> Causal<S> {
         self.clock = point.clock;
         self.top = point.top;
         self.all_wait = false;
+        self.at_rest = false;
         self.table.put(point.heard, point.row);
         self.table.put_own(point.rep_ts);
     }

@@ -4,6 +4,7 @@ use Rattle.lr_log.specs.Tables.{Told}
 use Rattle.lr_causal.proofs.Facts.{AllLogged-along}
 use Rattle.lr_causal.proofs.Received.{AllAcksReceived-along, AllReceived-along}
 use Rattle.lr_causal.proofs.Entered.{AllKnown-along}
+use Rattle.lr_causal.proofs.Resting.{IsAtRest-along}
 use Rattle.lr_causal.proofs.Waiting.{NoneApplied-along}
 use Rattle.lr_causal.proofs.causal.Causal.copy.Goals as goal
 
@@ -27,3 +28,10 @@ invariant_of-result-clause-waits g c known =
     let it = c.args.self.now in
     NoneApplied-along it.value.val_ts _ it.held.items _ (ap (λ v. v.val_ts) c.in_ok-value.ensures)
     (c.in_ok-held.ensures ∙ c.as_slice.ensures.value) (it.waits known)
+
+pub invariant_of-result-clause-rests : goal.invariant_of-result-clause-rests
+invariant_of-result-clause-rests g c known =
+    let it = c.args.self.now in
+    IsAtRest-along it.config.delta it.clock it.table.rows c.copy-4.result.rows it.log c.in_ok-log.log it.calls
+    c.in_ok-calls.calls (ap (λ (t : Told). t.rows) c.copy-4.ensures) c.in_ok-log.ensures c.in_ok-calls.ensures
+    (it.rests known)

@@ -9,6 +9,7 @@ use Rattle.lr_value.specs.Remembered.{Recalls, Waits}
 use Rattle.lr_causal.proofs.Each.{Each-filter}
 use Rattle.lr_causal.proofs.Entered.{AllKnown-filter}
 use Rattle.lr_causal.proofs.Facts.{AllLogged-filter}
+use Rattle.lr_causal.proofs.Resting.{IsAtRest-pruned}
 use Rattle.lr_causal.proofs.causal.Causal.prune.Goals as goal
 
 pub invariant_of-self-clause-logged : goal.invariant_of-self-clause-logged
@@ -55,3 +56,9 @@ invariant_of-self-clause-remembers g c memory is =
     (Each-filter (λ (u : LogUpdate g.row.S-Op.Denot). is_new memory.seen u.spot ≡ false
     → is_covered it.value.val_ts u ≡ false → Waits it.value.val_ts memory.waits u)
     (λ u. not (known_in it.table.rows u.spot)) it.log.updates (it.remembers memory is))
+
+pub invariant_of-self-clause-rests : goal.invariant_of-self-clause-rests
+invariant_of-self-clause-rests g c known =
+    let it = c.args.self.now in
+    IsAtRest-pruned it.config.delta it.clock it.table.rows it.log c.retain_unknown.new.self c.drop_acks.new.self it.calls
+    c.forget_done.new.calls c.retain_unknown.ensures c.forget_done.ensures c.drop_acks.ensures

@@ -117,3 +117,15 @@ returns-clause-undo g c = record {
       (point-taken p c.args.from (replica_of it) before c.args.gossip.now heard
       (c.requires.gossip.rep_parts ∙ sym it.rep_parts) point);
 }
+
+pub returns-then-has_heard-clause-count : goal.returns-then-has_heard-clause-count
+returns-then-has_heard-clause-count g c = sym (c.if-has_heard.ensures.none_new refl)
+
+pub returns-then-has_heard-clause-ok : goal.returns-then-has_heard-clause-ok
+returns-then-has_heard-clause-ok g c = sym (c.if-has_heard.ensures.same refl)
+
+pub invariant_of-self-2-clause-known : goal.invariant_of-self-2-clause-known
+invariant_of-self-2-clause-known g c = c.args.self.now.known
+
+pub invariant_of-self-2-clause-waits : goal.invariant_of-self-2-clause-waits
+invariant_of-self-2-clause-waits g c = c.args.self.now.waits

@@ -1,5 +1,5 @@
 use Rattle.std.proofs.Common.{◌≡◌, take}
-use Rattle.lr_causal.proofs.causal.copy_held.Given as goal
+use Rattle.lr_causal.proofs.causal.making.copy_held.Given as goal
 
 -- as many as turns were made
 abbrev pub invariant-loop-call : goal.invariant-loop-call
