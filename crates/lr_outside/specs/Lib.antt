@@ -1,4 +1,5 @@
 pub mod Faults
 pub mod Seen
 pub mod Calls
+pub mod Keepers
 pub mod Memory
