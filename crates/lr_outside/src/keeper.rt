@@ -14,9 +14,12 @@ pub enum KeepFault {
 }
 
 impl From<NoMemory> for KeepFault {
-    fn from(_no_memory: NoMemory) -> KeepFault
-        ensures { result ≡ KeepFault.NoMemory }
-    {
+    ghost use Rattle.std.specs.Prelude.{◌≡◌};
+    ghost use Rattle.lr_outside.specs.declared.keeper.KeepFault.TheVariants as fault;
+
+    ghost from_gives = { λ none given. given ≡ fault.NoMemory };
+
+    fn from(_none: NoMemory) -> KeepFault {
         KeepFault::NoMemory
     }
 }
