@@ -4,6 +4,9 @@ ghost use Rattle.lr_outside.specs.Keepers.{IsLoadCall, IsSaveCall, keeper_change
 
 use lr_base::{NoMemory, Rows};
 
+#[cfg(test)]
+mod tests;
+
 /// Why a keeper gave up.
 #[derive(Clone, Copy, Debug, PartialEq, Eq)]
 pub enum KeepFault {
