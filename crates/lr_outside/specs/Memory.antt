@@ -51,11 +51,13 @@ store_seen store = record { held = Some store.held; faults = store.faults }
 abbrev pub bounded_seen : BoundedStore → SinkSeen
 bounded_seen store = record { held = Some store.held; faults = store.faults }
 
--- what is seen of a keeper in memory
+-- what is seen of a keeper in memory: neither its numbers nor whether it is armed
+-- for example: `abc` kept and no call failed, of one whose next save is to fail
 abbrev pub archive_seen : Archive → KeeperSeen
 archive_seen archive = record { kept = archive.kept; faults = archive.faults }
 
--- what is seen of one that never fails
+-- what is seen of a keeper that never fails and keeps this
+-- for example: `abc` kept, and no call failed
 abbrev pub sure_seen : Option (List ℕ) → KeeperSeen
 sure_seen kept = record { kept = kept; faults = 0 }
 

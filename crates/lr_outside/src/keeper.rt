@@ -32,7 +32,7 @@ impl From<NoMemory> for KeepFault {
 pub trait Keeper {
     ghost seen: { Self → KeeperSeen };
 
-    /// Keeps these bytes, and what was kept no more. A save that gives up leaves what was kept.
+    /// Keeps these bytes in the place of what was kept. A save that gives up leaves what was kept.
     fn save(&mut self, bytes: &[u8]) -> Result<(), KeepFault>
         ensures { IsSaveCall (keeper_change seen self.old self.new) result bytes.now };
 

@@ -1,4 +1,4 @@
-//! The outside: what is read, written and kept, in memory and through the system, and how it fails.
+//! The outside: what is read, written and kept, and how that fails.
 #![tactic(auto)]
 
 mod adapters;
