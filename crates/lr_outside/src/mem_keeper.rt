@@ -89,7 +89,7 @@ impl Keeper for MemKeeper {
     fn save(&mut self, bytes: &[u8]) -> Result<(), KeepFault>
         ensures saved { IsSaveCall (keeper_change archive_seen self.old self.new) result bytes.now }
 
-        // Just a listed save fails and one for which the keeper is armed, which it then is no more. Both at once are one
+        // Just a listed save fails, and one while the keeper is armed, which uses the arming up. Both at once are one
         // fault.
         ensures failed { (result ≡ Err KeepFault.Failed) ↔
             (IsTrue (is_listed self.old.failing (one_more self.old.calls)) ⊎ IsTrue self.old.is_armed) }
