@@ -1,6 +1,6 @@
 -- The items that pass a test, and what is left without them.
 use Rattle.std.proofs.Common.{◌≡◌, ◌<◌, ◌≤◌, ℕ, zero, suc, Bool, true, false, cond, List, [], ◌∷◌}
-use Rattle.std.proofs.Common.{length, get_or, Bor, refl, sym, ap, ◌∙◌, subst, arith, ◌+◌, filter, not, take}
+use Rattle.std.proofs.Common.{length, get_or, Bor, refl, sym, ap, ◌∙◌, arith, ◌+◌, filter, not, take}
 use Rattle.std.specs.Prelude.{find, Option, Some, None, is_some, ◌||◌}
 use Rattle.std.specs.List.{AllByRecursion, list_any}
 use Rattle.std.specs.Option.{option_copied, option_map, option_or}

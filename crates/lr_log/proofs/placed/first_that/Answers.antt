@@ -1,4 +1,4 @@
-use Rattle.std.proofs.Common.{◌≡◌, ◌∙◌, find, sym}
+use Rattle.std.proofs.Common.{◌∙◌, find, sym}
 use Rattle.lr_log.proofs.Passing.{map-none, none-in-row, found-in-row}
 use Rattle.lr_log.proofs.placed.first_that.Goals as goal
 

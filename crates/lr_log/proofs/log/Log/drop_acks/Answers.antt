@@ -13,5 +13,5 @@ invariant_of-self g c =
       in_order = c.self.invariant.in_order;
       acks_in_order = ascends-filter (λ (a b : LogAck). is_before a.spot b.spot) _ c.self.inside.acks c.self.invariant.acks_in_order;
       apart = each-map (λ (u : LogUpdate g.row.O.Denot). NoneAt (λ a. a.spot) u.spot c.self.inside.acks) _ c.self.inside.updates
-      (λ u none. each-filter (λ (a : LogAck). a.spot ≢ u.spot) _ c.self.inside.acks none) c.self.invariant.apart;
+          (λ u none. each-filter (λ (a : LogAck). a.spot ≢ u.spot) _ c.self.inside.acks none) c.self.invariant.apart;
     })

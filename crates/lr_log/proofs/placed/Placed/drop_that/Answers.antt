@@ -1,4 +1,4 @@
-use Rattle.std.proofs.Common.{◌≡◌, ◌<◌, ◌∙◌, List, ap, filter, find, length, not, subst, sym}
+use Rattle.std.proofs.Common.{◌<◌, ◌∙◌, List, ap, filter, find, length, not, subst, sym}
 use Rattle.std.specs.Option.{option_map}
 use Rattle.lr_base.specs.Places.{AreInOrder}
 use Rattle.lr_log.specs.Rows.{same_spot, together}

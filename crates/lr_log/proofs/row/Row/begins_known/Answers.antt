@@ -1,4 +1,4 @@
-use Rattle.std.proofs.Common.{◌≡◌, ◌∙◌, Bool, true, false, not, List, ◌∷◌, ap, sym, refl, slice_index_or}
+use Rattle.std.proofs.Common.{◌≡◌, ◌∙◌, Bool, true, false, not, List, ap, sym, refl, slice_index_or}
 use Rattle.lr_base.specs.Rules.{is_new}
 use Rattle.lr_log.proofs.RowLemmas.{begins-new}
 use Rattle.lr_log.proofs.row.Row.begins_known.Goals as goal

@@ -1,4 +1,4 @@
-use Rattle.std.proofs.Common.{◌≡◌, ◌∙◌, Some, ap, find, sym}
+use Rattle.std.proofs.Common.{◌∙◌, Some, ap, find, sym}
 use Rattle.std.specs.Option.{option_map}
 use Rattle.lr_log.proofs.Passing.{found-here, none-more}
 use Rattle.lr_log.proofs.row.Row.first_that.Goals as goal

@@ -1,4 +1,4 @@
-use Rattle.std.proofs.Common.{◌≡◌, ◌<◌, ◌∙◌, List, ap, get_or, length, arith, subst}
+use Rattle.std.proofs.Common.{◌≡◌, ◌∙◌, List, ap, get_or, length, arith}
 use Rattle.lr_base.specs.Rules.{is_new}
 use Rattle.lr_log.proofs.Floors.{new_for-more}
 use Rattle.lr_log.specs.Tables.{Told}
