@@ -12,4 +12,5 @@ pub loop-row-preserved : goal.loop-row-preserved
 loop-row-preserved g c =
     none-in-row (g.P.Test.passes c.args.test.now) c.args.rows.now c.loop-row.row-index c.row-item.result
     c.loop-row-test.true c.row-item.is c.loop-row.invariant
-    (map-none g.T.AtSpot.spot_of (find (g.P.Test.passes c.args.test.now) c.row-item.result) (sym c.first_that.ensures ∙ c.in_default.is))
+    (map-none g.T.AtSpot.spot_of (find (g.P.Test.passes c.args.test.now) c.row-item.result)
+    (sym c.first_that.ensures ∙ c.in_default.is))
