@@ -1,5 +1,5 @@
 -- Pruning that drops nothing.
-use Rattle.std.proofs.Common.{◌≡◌, Bool, true, false, not, ◌&&◌, List, [], ◌∷◌, ℕ, refl, sym, subst}
+use Rattle.std.proofs.Common.{◌≡◌, Bool, true, false, not, ◌&&◌, List, [], ◌∷◌, ℕ, refl}
 use Rattle.std.specs.Prelude.{filter}
 use Rattle.lr_base.specs.Ascending.{same_cid}
 use Rattle.lr_base.specs.Rules.{is_spent, known_in, logs_ack, logs_update, undone_calls, unknown_updates}
