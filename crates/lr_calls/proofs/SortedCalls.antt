@@ -1,5 +1,6 @@
 -- A sort of calls lists them in ascending order.
-use Rattle.std.proofs.Common.{◌≡◌, ℕ, ◌+◌, ◌<◌, Bool, true, false, not, ◌&&◌, ◌||◌, eqb, ltb, List, [], ◌∷◌, get_or, map, refl, sym, ◌∙◌, ap, arith}
+use Rattle.std.proofs.Common.{◌≡◌, ℕ, ◌+◌, ◌<◌, Bool, true, false, not, ◌&&◌, ◌||◌, eqb, ltb, List, [], ◌∷◌, get_or}
+use Rattle.std.proofs.Common.{map, refl, sym, ◌∙◌, ap, arith}
 use Rattle.std.specs.Cmp.{ranks}
 use Rattle.std.specs.List.Sorted.{IsPermutation, IsSorted, IsSortedBy}
 use Rattle.std.specs.declared.cmp.Ordering.{Ordering}

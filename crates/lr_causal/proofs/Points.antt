@@ -23,7 +23,6 @@ use Rattle.lr_causal.proofs.Each.{Each-passes}
 use Rattle.lr_calls.specs.Tables.{without}
 use Rattle.lr_calls.specs.TableLaws.{without-none}
 use Rattle.lr_causal.proofs.Received.{new-earlier, set_part-above}
-use Rattle.lr_log.specs.Items.{Items, items_of}
 
 -- what is put back at two places is so whatever stood there
 set-between : {A : Type 0} (xs : List A) (i j : ℕ) (a b c : A) → set (set (set xs i a) j b) i c ≡ set (set xs j b) i c

@@ -1,5 +1,5 @@
 -- Pruning that drops nothing.
-use Rattle.std.proofs.Common.{◌≡◌, Bool, true, false, not, ◌&&◌, List, [], ◌∷◌, ℕ, refl, sym, subst}
+use Rattle.std.proofs.Common.{◌≡◌, Bool, true, false, not, ◌&&◌, List, [], ◌∷◌, ℕ, refl}
 use Rattle.std.specs.Prelude.{filter}
 use Rattle.lr_base.specs.Ascending.{same_cid}
 use Rattle.lr_base.specs.Rules.{is_spent, known_in, logs_ack, logs_update, undone_calls, unknown_updates}
@@ -38,10 +38,10 @@ logs_ack-fewer keep (a ∷ acks) cid none = go (same_cid a.cid cid) refl (keep a
     go false is true at later = let fewer : logs_ack acks cid ≡ false = rw is at none in rw (at, is) (later fewer)
     go false is false at later = let fewer : logs_ack acks cid ≡ false = rw is at none in rw at (later fewer)
 
--- neither is so much so where one isn't
-none : (b : Bool) {c : Bool} → c ≡ false → (b && c) ≡ false
-none true is = is
-none false is = refl
+-- where one fails, both do
+both-false : (a b : Bool) → b ≡ false → (a && b) ≡ false
+both-false true b is = is
+both-false false b is = refl
 
 -- so a call that isn't done isn't done by fewer acknowledgements
 undone-fewer : {Op : Type 0} (keep : LogAck → Bool) (updates : List (LogUpdate Op)) (acks : List LogAck) (cid : Cid)
@@ -53,7 +53,9 @@ undone-fewer keep updates acks cid undone = go (logs_ack acks cid) refl (logs_ac
         → (logs_ack acks cid ≡ false → logs_ack (filter keep acks) cid ≡ false)
         → (logs_ack (filter keep acks) cid && not (logs_update updates cid)) ≡ false
     go false is fewer = rw (fewer is) refl
-    go true is fewer = let last : not (logs_update updates cid) ≡ false = rw is at undone in none (logs_ack (filter keep acks) cid) last
+    go true is fewer =
+        let last : not (logs_update updates cid) ≡ false = rw is at undone in
+        both-false (logs_ack (filter keep acks) cid) (not (logs_update updates cid)) last
 
 module _ {Op : Type 0} (delta clock : ℕ) (rows : List (List ℕ)) where
   -- pruning twice is pruning once

@@ -1,5 +1,5 @@
 -- Gossip that tells nothing new.
-use Rattle.std.proofs.Common.{◌≡◌, ◌∙◌, ◌+◌, Bool, true, false, List, [], ◌∷◌, ℕ, suc, ap, get_or, length, refl, set, sym}
+use Rattle.std.proofs.Common.{◌≡◌, ◌∙◌, Bool, true, false, List, [], ◌∷◌, ℕ, suc, ap, get_or, length, refl, set, sym}
 use Rattle.std.specs.Prelude.{filter}
 use Rattle.std.proofs.lemmas.List.{set-get_or}
 use Rattle.lr_base.specs.Logged.{AllAcksReceived, AllReceived}

@@ -5,7 +5,7 @@ use crate::faults::Fault;
 use crate::printed::{
     put_acks, put_executed, put_fresh, put_heard, put_held, put_stamps, put_updates,
 };
-use crate::steps::{accept, hear, hear_acks, hold, note, read, tick};
+use crate::steps::{accept, hear, hear_acks, hold, note, read, tell, tick};
 use crate::texts::{cid, cut, number_of, small_number_of};
 use crate::undone::{accept_undone, hear_undone, note_undone};
 use lr_base::Config;
@@ -175,6 +175,7 @@ fn answer_asked(
     match verb {
         "read" => read(alloc, replica, words, out),
         "fresh" => answer_fresh(replica, words, out),
+        "tell" => tell(replica, words, out),
         "stamps" => Ok(put_stamps(replica, out)?),
         "heard" => Ok(put_heard(replica, out)?),
         "executed" => put_executed(alloc, replica, out),

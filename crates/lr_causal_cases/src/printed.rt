@@ -1,10 +1,10 @@
 //! How answers and states are printed.
 use crate::faults::Fault;
-use lr_base::{Cid, Fresh, Spot, Stamp, Text};
+use lr_base::{Cid, Fresh, Gossip, LogAck, LogUpdate, Spot, Stamp, Text};
 use lr_causal::{AckEnd, Causal};
 use std::alloc::{AllocError, Global};
 use std::str;
-use svc_tally::Tally;
+use svc_tally::{Tally, TallyOp};
 
 /// Adds a stamp's parts behind `out`, with dots between them.
 pub fn put_stamp(stamp: &Stamp, out: &mut String) -> Result<(), AllocError> {
@@ -136,13 +136,37 @@ pub fn put_held(replica: &Causal<Tally>, out: &mut String) -> Result<(), AllocEr
     Ok(())
 }
 
+/// Adds what is told behind `out`: how many items were received of each place, the updates, and the acknowledgements.
+pub fn put_gossip(gossip: &Gossip<TallyOp>, out: &mut String) -> Result<(), AllocError> {
+    put_stamp(&gossip.rep_ts, out)?;
+    put_update_items(gossip.updates.as_slice(), out)?;
+    put_ack_items(gossip.acks.as_slice(), out)
+}
+
 /// Adds the logged updates behind `out`, each with its spot, its call and its label.
 pub fn put_updates(replica: &Causal<Tally>, out: &mut String) -> Result<(), Fault> {
     let updates = replica.log().copy_updates()?;
-    for update in updates.as_slice() {
+    Ok(put_update_items(updates.as_slice(), out)?)
+}
+
+/// Adds the logged acknowledgements behind `out`, each with its spot and its call.
+pub fn put_acks(replica: &Causal<Tally>, out: &mut String) -> Result<(), Fault> {
+    let acks = replica.log().copy_acks()?;
+    Ok(put_ack_items(acks.as_slice(), out)?)
+}
+
+fn put_update_items(updates: &[LogUpdate<TallyOp>], out: &mut String) -> Result<(), AllocError> {
+    for update in updates {
         put_item(update.spot, update.cid, out)?;
         out.push_str(" after ")?;
         put_stamp(&update.prev, out)?;
+    }
+    Ok(())
+}
+
+fn put_ack_items(acks: &[LogAck], out: &mut String) -> Result<(), AllocError> {
+    for ack in acks {
+        put_item(ack.spot, ack.cid, out)?;
     }
     Ok(())
 }
@@ -152,13 +176,4 @@ fn put_item(spot: Spot, cid: Cid, out: &mut String) -> Result<(), AllocError> {
     put_spot(spot, out)?;
     let seq = cid.seq;
     write!(out, " of {seq}")
-}
-
-/// Adds the logged acknowledgements behind `out`, each with its spot and its call.
-pub fn put_acks(replica: &Causal<Tally>, out: &mut String) -> Result<(), Fault> {
-    let acks = replica.log().copy_acks()?;
-    for ack in acks.as_slice() {
-        put_item(ack.spot, ack.cid, out)?;
-    }
-    Ok(())
 }

@@ -5,7 +5,7 @@ ghost use Rattle.lr_causal.specs.Savepoint.{CanUndo};
 ghost use Rattle.lr_causal.specs.State.{me_of, replica_of};
 
 use crate::faults::Fault;
-use crate::printed::{put_accepted, put_answer, put_count, put_noted};
+use crate::printed::{put_accepted, put_answer, put_count, put_gossip, put_noted};
 use crate::texts::{call_of, cid, number_of, op_of, small_number_of, stamp_of};
 use lr_base::lr_service::{Kind, Operation, Service};
 use lr_base::{Gossip, LogAck, Rows, Spot, Stamp};
@@ -95,9 +95,22 @@ pub fn hear(
     if from.config() != replica.config() {
         return Err(Fault::TwoRuns);
     }
-    let gossip = from.make_gossip()?;
+    let gossip = from.make_gossip(replica.me())?;
     let count = replica.take_gossip(from.me(), &gossip)?;
     Ok(put_count(count, out)?)
+}
+
+/// Asks what a replica tells another: that one's number.
+pub fn tell(replica: &Causal<Tally>, words: &[&str], out: &mut String) -> Result<(), Fault> {
+    let [to] = words else {
+        return Err(Fault::Unread);
+    };
+    let to = small_number_of(to)?;
+    if replica.config().replicas <= to {
+        return Err(Fault::NoReplica);
+    }
+    let gossip = replica.make_gossip(to)?;
+    Ok(put_gossip(&gossip, out)?)
 }
 
 /// Takes gossip of a replica that logged nothing but acknowledgements: the replica, its stamp, and the numbers of the

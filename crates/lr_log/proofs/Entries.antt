@@ -1,5 +1,6 @@
 -- The order of entries: by call, and then by spot.
-use Rattle.std.proofs.Common.{◌≡◌, ◌≢◌, ◌⊎◌, ◌||◌, ◌&&◌, inl, inr, Bool, true, false, refl, sym, ◌∙◌, ap, not, subst, arith}
+use Rattle.std.proofs.Common.{◌≡◌, ◌≢◌, ◌⊎◌, ◌||◌, ◌&&◌, inl, inr, Bool, true, false, refl, sym, ◌∙◌, ap, not, subst}
+use Rattle.std.proofs.Common.{arith}
 use Rattle.std.proofs.lemmas.Bool.Decides.{nat_tests}
 use Rattle.lr_base.specs.Ascending.{cid_before, is_before, same_cid}
 use Rattle.lr_base.specs.NameLaws.{before-trans, cid-neither, same_cid-is, same_cid-self, cid-trans, neither-before}

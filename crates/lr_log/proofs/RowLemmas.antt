@@ -1,7 +1,8 @@
 -- Items that are kept place by place stand in the order of their spots.
 use Rattle.std.proofs.Common.{◌≡◌, ◌≢◌, ◌<◌, ◌≤◌, ◌+◌, ℕ, zero, suc, Bool, true, false, cond, List, [], ◌∷◌, ◌++◌}
 use Rattle.std.proofs.Common.{length, get_or, set, take, take-suc, add-one, drop, map, filter}
-use Rattle.std.proofs.Common.{refl, sym, ap, ◌∙◌, subst, arith, append_assoc, inl, inr, ◌⊎◌, eq-eqb, ne_eqb, lt-ltb, ltb-true}
+use Rattle.std.proofs.Common.{refl, sym, ap, ◌∙◌, subst, arith, append_assoc, inl, inr, ◌⊎◌, eq-eqb, ne_eqb, lt-ltb}
+use Rattle.std.proofs.Common.{ltb-true}
 use Rattle.std.specs.Prelude.{◌==◌}
 use Rattle.std.specs.List.{AllByRecursion}
 use Rattle.std.proofs.lemmas.List.{get_or_default, take_all}
@@ -284,41 +285,55 @@ more-same rows new row pushed empty =
 
 module _ {A : Type 0} (spot_of : A → Spot) (rep_ts : List ℕ) where
   -- behind an item that is new each of its row is
-  row-new : (x : A) (xs : List A) → AllByRecursion (λ y. (spot_of y).place ≡ (spot_of x).place) xs → AllByRecursion (λ y. is_before (spot_of x) (spot_of y) ≡ true) xs → is_new rep_ts (spot_of x) ≡ true
+  row-new : (x : A) (xs : List A) → AllByRecursion (λ y. (spot_of y).place ≡ (spot_of x).place) xs
+      → AllByRecursion (λ y. is_before (spot_of x) (spot_of y) ≡ true) xs → is_new rep_ts (spot_of x) ≡ true
       → AllByRecursion (λ y. is_new rep_ts (spot_of y) ≡ true) xs
   row-new x [] places order new = tt
   row-new x (y ∷ xs) places order new = (later y places.0 order.0, row-new x xs places.1 order.1 new)
     where
-      later : (y : A) → (spot_of y).place ≡ (spot_of x).place → is_before (spot_of x) (spot_of y) ≡ true → is_new rep_ts (spot_of y) ≡ true
+      later : (y : A) → (spot_of y).place ≡ (spot_of x).place → is_before (spot_of x) (spot_of y) ≡ true
+          → is_new rep_ts (spot_of y) ≡ true
       later y same before =
-          let less : part rep_ts (spot_of x).place < (spot_of x).number = ltb-true (part rep_ts (spot_of x).place) (spot_of x).number new in
+          let less : part rep_ts (spot_of x).place < (spot_of x).number = ltb-true (part rep_ts (spot_of x).place)
+          (spot_of x).number new in
           let parts : part rep_ts (spot_of y).place ≡ part rep_ts (spot_of x).place = ap (part rep_ts) same in
           up less parts (before-holds (spot_of x) (spot_of y) before)
         where
-          up : part rep_ts (spot_of x).place < (spot_of x).number → part rep_ts (spot_of y).place ≡ part rep_ts (spot_of x).place
-              → ((spot_of x).place < (spot_of y).place) ⊎ (((spot_of x).place ≡ (spot_of y).place) × ((spot_of x).number < (spot_of y).number)) → is_new rep_ts (spot_of y) ≡ true
+          up : part rep_ts (spot_of x).place < (spot_of x).number
+              → part rep_ts (spot_of y).place ≡ part rep_ts (spot_of x).place
+              → ((spot_of x).place < (spot_of y).place) ⊎
+              (((spot_of x).place ≡ (spot_of y).place) × ((spot_of x).number < (spot_of y).number))
+              → is_new rep_ts (spot_of y) ≡ true
           up less parts (inl other) = absurd (omega arith)
-          up less parts (inr at) = let more = at.1 in lt-ltb (part rep_ts (spot_of y).place) (spot_of y).number (omega arith)
+          up less parts (inr at) = let more = at.1 in lt-ltb (part rep_ts (spot_of y).place) (spot_of y).number
+              (omega arith)
 
   -- a row that begins with a new item has new ones alone
-  pub begins-new : (place : ℕ) (row : List A) → IsRow spot_of place row → ((x : A) (xs : List A) → row ≡ x ∷ xs → is_new rep_ts (spot_of x) ≡ true) → AllByRecursion (λ y. is_new rep_ts (spot_of y) ≡ true) row
+  pub begins-new : (place : ℕ) (row : List A) → IsRow spot_of place row
+      → ((x : A) (xs : List A) → row ≡ x ∷ xs → is_new rep_ts (spot_of x) ≡ true)
+      → AllByRecursion (λ y. is_new rep_ts (spot_of y) ≡ true) row
   begins-new place [] is first = tt
   begins-new place (x ∷ xs) is first =
       let new = first x xs refl in
       (new, row-new x xs (same xs is.0.1) is.1.0 new)
     where
-      same : (ys : List A) → AllByRecursion (λ y. (spot_of y).place ≡ place) ys → AllByRecursion (λ y. (spot_of y).place ≡ (spot_of x).place) ys
+      same : (ys : List A) → AllByRecursion (λ y. (spot_of y).place ≡ place) ys
+          → AllByRecursion (λ y. (spot_of y).place ≡ (spot_of x).place) ys
       same [] all = tt
       same (y ∷ ys) all = (all.0 ∙ sym is.0.0, same ys all.1)
 
 -- what holds of each item of some rows and of one more row
-pub each-row_more : {A : Type 0} (P : A → Type 0) (rows : List (List A)) (k : ℕ) (row : List A) → k < length rows → row ≡ get_or rows k row
+pub each-row_more : {A : Type 0} (P : A → Type 0) (rows : List (List A)) (k : ℕ) (row : List A) → k < length rows
+    → row ≡ get_or rows k row
     → AllByRecursion P (together (take k rows)) → AllByRecursion P row → AllByRecursion P (together (take (k + 1) rows))
 each-row_more P rows k row less is before own =
-    rw (add-one k, take-suc rows k row less, ← is, together-more (take k rows) row) (each-append P (together (take k rows)) row before own)
+    rw (add-one k, take-suc rows k row less, ← is, together-more (take k rows) row)
+    (each-append P (together (take k rows)) row before own)
 
-pub each-row_all : {A : Type 0} (P : A → Type 0) (rows : List (List A)) (k : ℕ) → length rows ≤ k → AllByRecursion P (together (take k rows)) → AllByRecursion P (together rows)
-each-row_all P rows k past all = subst (λ (rs : List (List _)). AllByRecursion P (together rs)) (take_all k rows past) all
+pub each-row_all : {A : Type 0} (P : A → Type 0) (rows : List (List A)) (k : ℕ) → length rows ≤ k
+    → AllByRecursion P (together (take k rows)) → AllByRecursion P (together rows)
+each-row_all P rows k past all = subst (λ (rs : List (List _)). AllByRecursion P (together rs)) (take_all k rows past)
+    all
 
 module _ {A : Type 0} (spot_of : A → Spot) where
   -- the place of each item of the rows is below their count

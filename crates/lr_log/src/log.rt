@@ -161,8 +161,8 @@ impl<O: Drop> Log<O> {
         Ok(())
     }
 
-    /// Drops the updates that each replica has, by what it told. It takes no memory, and where there are none it looks at
-    /// one update a place.
+    /// Drops the updates that each replica has, by what it told. It takes no memory, and where there are none it looks
+    /// at one update a place.
     pub fn retain_unknown(&mut self, table: &Table)
         ensures { self.new ≡ record self.old { updates = unknown_updates table.now.rows self.old.updates } }
     {
@@ -170,8 +170,8 @@ impl<O: Drop> Log<O> {
         self.updates.drop_known(&floor);
     }
 
-    /// Drops the acknowledgements that are of no use any more: each replica has them, by what it told, they are late, and
-    /// no update of their call is logged. It takes no memory.
+    /// Drops the acknowledgements that are of no use any more: each replica has them, by what it told, they are late,
+    /// and no update of their call is logged. It takes no memory.
     pub fn drop_acks(&mut self, table: &Table, clock: u64, delta: u64)
         ensures { self.new ≡ record self.old {
           acks = filter (λ a. not (is_spent delta clock table.now.rows self.old.updates a)) self.old.acks;
@@ -214,7 +214,8 @@ impl<O: Operation> Log<O> {
         self.updates.copy_items()
     }
 
-    /// Copies of the logged updates that are new where so many were received of each place, in the order of their spots.
+    /// Copies of the logged updates that are new where so many were received of each place, in the order of their
+    /// spots.
     pub fn copy_new_updates(&self, theirs: &Stamp) -> Result<Rows<LogUpdate<O>>, NoMemory>
         ensures { IfOk result (λ copied. copied ≡ new_updates theirs.now self.now.updates) }
     {

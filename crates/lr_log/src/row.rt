@@ -1,5 +1,6 @@
 //! The items of one place.
-ghost use Rattle.std.specs.Prelude.{ℕ, ◌≡◌, ◌≤◌, ◌++◌, [], not, filter, find, map, length, false, true, OnOk, OnErr, IfOk};
+ghost use Rattle.std.specs.Prelude.{ℕ, ◌≡◌, ◌≤◌, ◌++◌, [], not, filter, find, map, length, false, true};
+ghost use Rattle.std.specs.Prelude.{OnOk, OnErr, IfOk};
 ghost use Rattle.std.specs.List.Sorted.{IsPartitionPoint};
 ghost use Rattle.std.specs.Option.{option_copied, option_map};
 ghost use Rattle.lr_base.specs.Ascending.{is_before as spot_is_before};

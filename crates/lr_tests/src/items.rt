@@ -1,5 +1,4 @@
 //! Items of logs, stamps and tables, which tests are made of.
-
 use lr_base::lr_service::Service;
 use lr_base::{Cid, Config, LAST_NUMBER, LogUpdate, MOST_PARTS, MOST_REPLICAS, Spot, Stamp};
 use lr_log::Table;

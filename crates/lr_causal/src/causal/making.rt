@@ -44,8 +44,8 @@ impl<S: Service> Causal<S> {
         })
     }
 
-    /// A replica of what was kept of it, with no held query. It takes no memory, and what is ready or of no use any more
-    /// is looked for when it is next settled.
+    /// A replica of what was kept of it, with no held query. It takes no memory. What is ready, or of no use any more,
+    /// is looked for when it is settled next.
     pub fn from_parts(
         config: Config,
         me: u8,

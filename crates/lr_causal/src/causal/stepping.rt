@@ -90,8 +90,8 @@ impl<S: Service> Causal<S> {
     }
 
     /// Drops what is of no use any more: updates that each replica has, then calls that are done, then acknowledgements
-    /// that each replica has and that are late. It takes no memory, and no savepoint undoes it. Where nothing was logged,
-    /// received, applied or heard, nor the clock read, since the last time, it looks at no item.
+    /// that each replica has and that are late. It takes no memory, and no savepoint undoes it. It looks at no item
+    /// where since the last time nothing was logged, heard, applied or undone, and the clock stood still.
     pub fn prune(&mut self)
         ensures state { state_of self.new ≡ pruned (config_of self.old).delta (state_of self.old) }
         ensures same { IsSame (replica_of self.old) (replica_of self.new) }

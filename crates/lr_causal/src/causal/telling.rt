@@ -13,8 +13,8 @@ impl<S: Service> Causal<S> {
     ghost use Rattle.lr_causal.specs.Savepoint.{CanUndo};
     ghost use Rattle.lr_causal.specs.State.{config_of, me_of, replica_of, state_of};
 
-    /// What it tells another replica: how many items it received of each place, and of its log what is new for that one,
-    /// by what it was told.
+    /// What it tells another replica: how many items it received of each place, and what of its log is new for that
+    /// one, by what it was told.
     pub fn make_gossip(&self, to: u8) -> Result<Gossip<S::Op>, NoMemory>
         requires { to < (config_of self.now).replicas }
         ensures gossip { IfOk result (λ made. made ≡ gossip_of to (state_of self.now)) }
@@ -32,13 +32,14 @@ impl<S: Service> Causal<S> {
     }
 
     /// Takes gossip of another replica: what is new is logged, and its stamp is joined to what was received here and to
-    /// what its sender told. It answers how many items were new.
+    /// what its sender told. It answers how many items were new. Where it tells nothing it takes no memory.
     pub fn take_gossip(&mut self, from: u8, gossip: &Gossip<S::Op>) -> Result<u64, NoMemory>
         requires from { from < (config_of self.old).replicas }
         requires gossip { IsGossip S.Op.kind_of ((config_of self.old).replicas + 1) gossip.now }
         // what is taken
         ensures count { IfOk result (λ count. count ≡ new_count (state_of self.old) gossip.now) }
-        ensures ok { OnOk result (state_of self.new ≡ gossip_taken (me_of self.old) from (state_of self.old) gossip.now) }
+        ensures ok { let state = state_of self.old in
+            OnOk result (state_of self.new ≡ gossip_taken (me_of self.old) from state gossip.now) }
         // what stays, and can be undone
         ensures err { OnErr result (state_of self.new ≡ state_of self.old) }
         ensures undo { CanUndo from (replica_of self.old) (replica_of self.new) }

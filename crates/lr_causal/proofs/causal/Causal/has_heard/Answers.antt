@@ -1,4 +1,4 @@
-use Rattle.std.proofs.Common.{◌≡◌, ◌∙◌, ◌+◌, ◌<◌, List, ℕ, [], true, ap, get_or, length, sym}
+use Rattle.std.proofs.Common.{◌≡◌, ◌∙◌, ◌+◌, ◌<◌, ℕ, [], true, ap, get_or, length, sym}
 use Rattle.lr_base.specs.Stamps.{stamp_le}
 use Rattle.lr_causal.proofs.Retold.{gossip_taken-none, new_count-none}
 use Rattle.lr_causal.specs.State.{state_of}

@@ -1,6 +1,5 @@
-use Rattle.std.proofs.Common.{◌≡◌, ◌∙◌, ap, length, refl, sym, List}
-use Rattle.lr_base.specs.Rules.{is_new, new_acks, new_updates}
-use Rattle.lr_base.specs.declared.messages.LogAck.{LogAck}
+use Rattle.std.proofs.Common.{◌≡◌, ◌∙◌, ap, length}
+use Rattle.lr_base.specs.Rules.{is_new}
 use Rattle.lr_causal.specs.GossipLaws.{StandInOrder-of}
 use Rattle.lr_causal.proofs.Facts.{AllLogged-filter}
 use Rattle.lr_causal.proofs.Received.{AllAcksReceived-told, AllReceived-told}

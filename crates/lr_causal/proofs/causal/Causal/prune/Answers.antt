@@ -1,7 +1,7 @@
-use Rattle.std.proofs.Common.{◌≡◌, ◌∙◌, ◌&&◌, List, false, not, ap, sym, subst}
+use Rattle.std.proofs.Common.{◌≡◌, ◌∙◌, ◌&&◌, false, not, ap, sym, subst}
 use Rattle.std.specs.Prelude.{filter}
-use Rattle.lr_base.specs.Logged.{AllAcksReceived, AllReceived, IsLogged}
-use Rattle.lr_base.specs.Rules.{is_covered, is_new, is_spent, known_in, logs_ack, logs_update, unknown_updates}
+use Rattle.lr_base.specs.Logged.{AllAcksReceived, AllReceived}
+use Rattle.lr_base.specs.Rules.{is_covered, is_new, is_spent, known_in, logs_ack, logs_update}
 use Rattle.lr_base.specs.declared.messages.LogAck.{LogAck}
 use Rattle.lr_base.specs.declared.messages.LogUpdate.{LogUpdate}
 use Rattle.lr_log.specs.Items.{Items}

@@ -1,5 +1,4 @@
-use Rattle.std.proofs.Common.{◌∙◌, ap, length, refl, sym}
-use Rattle.lr_causal.specs.Savepoint.{Saved}
+use Rattle.std.proofs.Common.{ap}
 use Rattle.lr_causal.proofs.Facts.{AllLogged-filter}
 use Rattle.lr_causal.proofs.Received.{AllAcksReceived-stays, AllReceived-stays}
 use Rattle.lr_log.specs.Tables.{Told}

@@ -1,4 +1,4 @@
-use Rattle.std.proofs.Common.{◌≡◌, ◌∙◌, ◌<◌, ◌+◌, List, ℕ, [], ap, get_or, length, sym, arith}
+use Rattle.std.proofs.Common.{◌≡◌, ◌∙◌, ◌<◌, ◌+◌, ℕ, [], ap, get_or, length, sym, arith}
 use Rattle.lr_causal.specs.State.{replica_of}
 use Rattle.lr_causal.proofs.Points.{point-saved}
 use Rattle.lr_log.specs.TableLaws.{own-row, row-parts}

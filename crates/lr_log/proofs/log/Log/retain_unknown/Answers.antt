@@ -9,8 +9,11 @@ use Rattle.lr_log.proofs.log.Log.retain_unknown.Goals as goal
 
 pub invariant_of-self : goal.invariant_of-self
 invariant_of-self g c =
-    subst (λ (updates : List (LogUpdate g.row.O.Denot)). IsOrdered (items_of updates c.self.inside.acks)) (sym c.drop_known.ensures) (record {
-      in_order = ascends-filter (λ (a b : LogUpdate g.row.O.Denot). is_before a.spot b.spot) (λ u. is_new c.floor-floor.result u.spot) c.self.inside.updates c.self.invariant.in_order;
+    subst (λ (updates : List (LogUpdate g.row.O.Denot)). IsOrdered (items_of updates c.self.inside.acks))
+    (sym c.drop_known.ensures) (record {
+      in_order = ascends-filter (λ (a b : LogUpdate g.row.O.Denot). is_before a.spot b.spot)
+          (λ u. is_new c.floor-floor.result u.spot) c.self.inside.updates c.self.invariant.in_order;
       acks_in_order = c.self.invariant.acks_in_order;
-      apart = each-filter (λ (u : LogUpdate g.row.O.Denot). NoneAt (λ a. a.spot) u.spot c.self.inside.acks) (λ u. is_new c.floor-floor.result u.spot) c.self.inside.updates c.self.invariant.apart;
+      apart = each-filter (λ (u : LogUpdate g.row.O.Denot). NoneAt (λ a. a.spot) u.spot c.self.inside.acks)
+          (λ u. is_new c.floor-floor.result u.spot) c.self.inside.updates c.self.invariant.apart;
     })

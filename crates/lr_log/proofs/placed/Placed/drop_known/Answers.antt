@@ -9,7 +9,8 @@ use Rattle.lr_log.proofs.placed.Placed.drop_known.Goals as goal
 pub returns-then-not-has_known : goal.returns-then-not-has_known
 returns-then-not-has_known g c =
     sym (filter-all (λ x. is_new c.args.floor.now (g.T.AtSpot.spot_of x)) c.args.self.now
-    (subst (λ (items : List g.row.T.Denot). AllByRecursion (λ x. is_new c.args.floor.now (g.T.AtSpot.spot_of x) ≡ true) items)
+    (subst (λ (items : List g.row.T.Denot). AllByRecursion
+    (λ x. is_new c.args.floor.now (g.T.AtSpot.spot_of x) ≡ true) items)
     (ap together c.as_slice.ensures.value ∙ c.self.view_is) (c.has_known.ensures c.if-not-has_known.true)))
 
 pub invariant_of-self : goal.invariant_of-self
@@ -20,5 +21,6 @@ invariant_of-self g c =
 
 pub returns : goal.returns
 returns g c =
-    ap together c.drop_known_of.ensures ∙ together-filter (λ x. is_new c.args.floor.now (g.T.AtSpot.spot_of x)) c.self.inside.rows.items
+    ap together c.drop_known_of.ensures ∙ together-filter (λ x. is_new c.args.floor.now (g.T.AtSpot.spot_of x))
+    c.self.inside.rows.items
     ∙ ap (filter (λ x. is_new c.args.floor.now (g.T.AtSpot.spot_of x))) c.self.view_is

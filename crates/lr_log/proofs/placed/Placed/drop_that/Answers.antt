@@ -1,4 +1,4 @@
-use Rattle.std.proofs.Common.{◌≡◌, ◌<◌, ◌∙◌, List, ap, filter, find, length, not, subst, sym}
+use Rattle.std.proofs.Common.{◌<◌, ◌∙◌, List, ap, filter, find, length, not, subst, sym}
 use Rattle.std.specs.Option.{option_map}
 use Rattle.lr_base.specs.Places.{AreInOrder}
 use Rattle.lr_log.specs.Rows.{same_spot, together}
@@ -28,6 +28,7 @@ loop-spot-preserved g c =
 pub returns : goal.returns
 returns g c =
     sym (all-stay (g.P.Test.passes c.args.test.now) c.loop-spot.self
-    (map-none g.T.AtSpot.spot_of (find (g.P.Test.passes c.args.test.now) c.loop-spot.self) (ap (λ rows. option_map g.T.AtSpot.spot_of (find (g.P.Test.passes c.args.test.now) rows))
+    (map-none g.T.AtSpot.spot_of (find (g.P.Test.passes c.args.test.now) c.loop-spot.self)
+    (ap (λ rows. option_map g.T.AtSpot.spot_of (find (g.P.Test.passes c.args.test.now) rows))
     (sym (ap together c.as_slice.ensures.value ∙ c.self.view_is)) ∙ sym c.first_that.ensures ∙ c.in_default.is)))
     ∙ c.loop-spot.invariant

@@ -1,4 +1,4 @@
-use Rattle.std.proofs.Common.{◌≡◌, ◌∙◌, ap, sym}
+use Rattle.std.proofs.Common.{◌∙◌, ap, sym}
 use Rattle.std.specs.Prelude.{is_some}
 use Rattle.lr_base.specs.Ascending.{same_cid}
 use Rattle.lr_log.proofs.Passing.{any-found, some-copied}
