@@ -9,6 +9,8 @@ from several_replicas import covers, join, operation
 
 # how many items are logged anywhere before clients only read for a while, so few that no log gets full
 BUSY = 400
+# how many updates there are in all where they don't go on
+FEW_UPDATES = 200
 LOG_ROOM = 512
 AGAIN_IN_A_HUNDRED = 10
 TICKS_IN_A_HUNDRED = 2
@@ -151,7 +153,9 @@ class Replica:
 
 
 class Script:
-    def __init__(self, events, replicas, service):
+    def __init__(self, events, replicas, service, most_updates):
+        self.most_updates = most_updates
+        self.updates = 0
         self.draws = random.Random(SEED)
         self.service = service
         self.lines = [f"lazyrep 1 {service} {replicas} {CLIENTS} {DELTA}"]
@@ -245,7 +249,8 @@ class Script:
     def call(self, client):
         index = self.some_replica(client)
         name = f"n{self.draws.randrange(COUNTERS)}"
-        adds = len(self.logged) < BUSY and self.draws.randrange(2) == 0
+        adds = self.may_update() and self.draws.randrange(2) == 0
+        self.updates += adds
         self.counts[client] += 1
         time = len(self.lines)
         call = Call(client, self.counts[client], adds, list(self.labels[client]), time)
@@ -284,6 +289,9 @@ class Script:
         call, self.open[client] = self.open[client], None
         self.next[client] = ("ack", call) if call.updates else None
 
+    def may_update(self):
+        return self.updates < self.most_updates and len(self.logged) < BUSY
+
     def acknowledge(self, client, call):
         index = self.some_replica(client)
         time = len(self.lines)
@@ -297,5 +305,5 @@ class Script:
         self.next[client] = None
 
 
-def make_script(events, replicas, service):
-    return "".join(line + "\n" for line in Script(events, replicas, service).lines)
+def make_script(events, replicas, service, most_updates):
+    return "".join(line + "\n" for line in Script(events, replicas, service, most_updates).lines)
