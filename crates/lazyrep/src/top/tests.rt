@@ -76,7 +76,7 @@ const REFUSED: [(&[&str], &str, &str, u8); 17] = [
     ),
     (
         &["lazyrep", "sim"],
-        "lazyrep 1 tally 1 1 10\nresend 0 0 9\n",
+        "lazyrep 1 tally 1 1 10\nresends 0 0 9\n",
         "lazyrep: line 2: event\n",
         3,
     ),
